@@ -1,0 +1,4 @@
+mod SessionExample
+mod EndingExamples
+mod MachineExample
+mod GeneratorExample
