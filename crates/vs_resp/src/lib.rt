@@ -10,10 +10,10 @@ ghost use Rattle.vs_stream.specs.Given.{GivenAll, GivenFirst};
 ghost use Rattle.vs_stream.specs.Place.{IsStream};
 ghost use Rattle.std.specs.Option.{option_to_list};
 
-use vs_outside::{List, Text};
 use std::alloc::Global;
 use std::collections::VecDeque;
 use std::mem;
+use vs_outside::{List, Text};
 
 /// What is wrong with a stream.
 #[derive(Clone, Copy, Debug, PartialEq, Eq)]
