@@ -1,0 +1,2 @@
+//! One connection: requests in, replies out, over one store.
+#![tactic(auto)]
