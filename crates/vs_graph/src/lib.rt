@@ -1,19 +1,23 @@
 //! The layered graph of members: nodes by ids, edits over them, and the graph that is always good.
 #![tactic(auto)]
 
+mod changes;
 mod edit;
 mod graph;
 mod list_nodes;
 mod node;
 mod nodes;
 mod overwriting;
+mod reading;
 mod shared;
 mod steps;
 
+pub use changes::{add_link, drop_link, put_links};
 pub use edit::Edit;
 pub use graph::Graph;
 pub use list_nodes::ListNodes;
 pub use node::{Attr, Body, Node};
 pub use nodes::{FreshNodes, Nodes};
+pub use reading::{degree, fewer, links, live_copy, live_node, more};
 pub use shared::Shared;
 pub use steps::Steps;
