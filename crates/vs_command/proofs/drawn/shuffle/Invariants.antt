@@ -1,6 +1,6 @@
 use Rattle.std.proofs.Common.{◌≡◌, ◌<◌, ◌≤◌, ◌^◌, length, drop}
 use Rattle.vs_defs.specs.Draws.{shuffled}
-use Rattle.vs_command.proofs.draws.shuffle.Given as goal
+use Rattle.vs_command.proofs.drawn.shuffle.Given as goal
 
 abbrev pub invariant-loop-turn : goal.invariant-loop-turn
 invariant-loop-turn l = record {

@@ -2,10 +2,41 @@
 ghost use Rattle.std.specs.Prelude.{◌≡◌, ◌<◌, ◌≤◌, ◌^◌, ℕ, List as Items, All, IfOk, length, map, drop, take, min, unsigned_abs};
 ghost use Rattle.std.specs.List.{range_with_len};
 ghost use Rattle.vs_defs.specs.Bytes.{Bytes};
+ghost use Rattle.vs_command.specs.Requests.{request_of};
+ghost use Rattle.vs_defs.specs.Read.{draws as draws_of};
 ghost use Rattle.vs_defs.specs.Draws.{level_of, place_of, name_at, picks as picks_of, shuffled};
 
+use crate::Request;
 use std::alloc::Global;
 use vs_outside::{List, NoMemory};
+
+/// How many drawn words a request takes: one for a VADD and for a random pick without a count, as many as the count says
+/// either way for a random pick with one, and none for any other.
+pub fn draws(request: &Request) -> u32
+    ensures { result ≡ draws_of (request_of request.now) }
+{
+    match request {
+        Request::Vadd(_) | Request::Vrandmember { count: None, .. } => 1,
+        Request::Vrandmember {
+            count: Some(count),
+            ..
+        } => count.unsigned_abs(),
+        Request::Ping(_)
+        | Request::Quit
+        | Request::Del(_)
+        | Request::Exists(_)
+        | Request::Vrem { .. }
+        | Request::Vsim(_)
+        | Request::Vcard(_)
+        | Request::Vdim(_)
+        | Request::Vemb { .. }
+        | Request::Vlinks { .. }
+        | Request::Vinfo(_)
+        | Request::Vgetattr { .. }
+        | Request::Vsetattr { .. }
+        | Request::Vismember { .. } => 0,
+    }
+}
 
 /// The level of a new member.
 pub fn level_of_word(word: u32) -> u8

@@ -1,6 +1,6 @@
 use Rattle.std.proofs.Common.{arith, sym, ◌∙◌, length}
 use Rattle.vs_command.proofs.Shuffles.{shuffled_next}
-use Rattle.vs_command.proofs.draws.shuffle.Goals as goal
+use Rattle.vs_command.proofs.drawn.shuffle.Goals as goal
 
 pub loop-turn-preserved : goal.loop-turn-preserved
 loop-turn-preserved c = record {

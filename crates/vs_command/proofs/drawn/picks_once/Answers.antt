@@ -1,6 +1,6 @@
 use Rattle.std.proofs.Common.{◌≡◌, length, ap, ◌∙◌, arith}
 use Rattle.std.proofs.lemmas.List.FromFn.{length-range_with_len}
-use Rattle.vs_command.proofs.draws.picks_once.Goals as goal
+use Rattle.vs_command.proofs.drawn.picks_once.Goals as goal
 
 pub shuffle-requires-clause-turns : goal.shuffle-requires-clause-turns
 shuffle-requires-clause-turns c =

@@ -1,8 +1,8 @@
 use Rattle.std.proofs.Common.{◌<ℤ◌, ◌≤ℤ◌, pos, rules, arith}
 use Rattle.std.proofs.lemmas.Int.{ints}
 use Rattle.vs_command.proofs.Shuffles.{picked_anew, picked_once, picked_within}
-use Rattle.vs_command.proofs.draws.picks.Goals as goal
-use Rattle.vs_command.proofs.draws.picks.Goals.{then-count-lt0+in_ok-places, else-count-lt0+in_ok-places-2}
+use Rattle.vs_command.proofs.drawn.picks.Goals as goal
+use Rattle.vs_command.proofs.drawn.picks.Goals.{then-count-lt0+in_ok-places, else-count-lt0+in_ok-places-2}
 
 pub returns-clause-picks : goal.returns-clause-picks
 returns-clause-picks c names e =
