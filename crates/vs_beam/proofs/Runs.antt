@@ -9,7 +9,7 @@ use Rattle.vs_graph.specs.declared.node.Node.{Node}
 use Rattle.vs_graph.specs.Good.{IsLinked, links_at}
 use Rattle.vs_slot.specs.Marks.{Marks}
 use Rattle.vs_rank.specs.declared.Key.{Key}
-use Rattle.vs_rank.specs.Passing.{Attribute}
+use Rattle.vs_rank.specs.Tests.{Attribute}
 use Rattle.vs_beam.specs.declared.search.Search.{Search}
 use Rattle.vs_beam.specs.Beam.{IsSpent, IsClose, IsBeam}
 use Rattle.vs_beam.specs.Searching.{IsSearchOf, AreFoundOf, IsSearch, AreFound, IsAdvanced, IsExpanded, IsOver, IsSameSearch, IsWhole, size_left, expansion_cost}

@@ -17,7 +17,7 @@ use Rattle.std.proofs.lemmas.Option.{slice_get-get_or}
 use Rattle.vs_graph.specs.declared.node.Node.{Node}
 use Rattle.vs_graph.specs.Good.{IsLinked, StandsAt}
 use Rattle.vs_rank.specs.declared.Key.{Key}
-use Rattle.vs_rank.specs.Passing.{Attribute}
+use Rattle.vs_rank.specs.Tests.{Attribute}
 use Rattle.vs_rank.specs.Ranked.{Least, key_lt, with_key, sorted_keys, is_beyond}
 use Rattle.vs_rank.proofs.Keys.{front_with, same_sorted, rises_sorted, rises_filter, ascends_from_rises, below_trans}
 use Rattle.vs_beam.specs.Beam.{far_at, key_at, attr_at, best_of, ranked, IsClose, IsReached, IsKnown, AreDifferent, AreNext, IsNext, IsSpent, count_nearer}

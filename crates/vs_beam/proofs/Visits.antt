@@ -11,7 +11,7 @@ use Rattle.vs_graph.specs.Good.{IsLinked, StandsAt}
 use Rattle.vs_slot.specs.Marks.{Marks, IsEmptied}
 use Rattle.vs_beam.specs.declared.search.Search.{Search}
 use Rattle.vs_rank.specs.Ranked.{with_key}
-use Rattle.vs_rank.specs.Passing.{Attribute}
+use Rattle.vs_rank.specs.Tests.{Attribute}
 use Rattle.vs_beam.specs.Beam.{IsSpent, key_at, attr_at}
 use Rattle.vs_beam.specs.Searching.{IsSearch, AreFound, IsTried, IsOffered, IsVisited, IsSameSearch, size_left}
 use Rattle.vs_beam.proofs.Steps.{tries, tries_found, starts, starts_found}

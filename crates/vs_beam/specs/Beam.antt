@@ -10,7 +10,7 @@ use Rattle.vs_graph.specs.Good.{IsLinked, StandsAt}
 use Rattle.vs_defs.specs.Words.{words_ham}
 use Rattle.vs_rank.specs.declared.Key.{Key}
 use Rattle.vs_rank.specs.Ranked.{sorted_keys}
-use Rattle.vs_rank.specs.Passing.{Attribute}
+use Rattle.vs_rank.specs.Tests.{Attribute}
 
 -- how far an id is from the query
 abbrev pub far_at : (ℕ → Option Node) → List ℕ → ℕ → ℕ

@@ -6,7 +6,7 @@ use Rattle.vs_graph.specs.Good.{IsLinked, StandsAt, links_at}
 use Rattle.vs_slot.specs.Marks.{Marks}
 use Rattle.vs_rank.specs.declared.Key.{Key}
 use Rattle.vs_rank.specs.Ranked.{with_key, key_lt, is_beyond}
-use Rattle.vs_rank.specs.Passing.{Attribute, Answers}
+use Rattle.vs_rank.specs.Tests.{Attribute, Answers}
 use Rattle.vs_beam.specs.declared.search.Search.{Search}
 use Rattle.vs_beam.specs.Beam.{key_at, attr_at, best_of, IsReached, IsKnown, AreDifferent, AreNext, IsSpent}
 

@@ -1,7 +1,7 @@
 ghost use Rattle.std.specs.Prelude.{◌+◌, ◌<◌, ◌≤◌, ◌↔◌, Bool, IfOk, IsTrue};
 ghost use Rattle.vs_defs.specs.Words.{FitsDimension};
 ghost use Rattle.vs_graph.specs.Good.{StandsAt};
-ghost use Rattle.vs_rank.specs.Passing.{Attribute, Answers};
+ghost use Rattle.vs_rank.specs.Tests.{Attribute, Answers};
 ghost use Rattle.vs_beam.specs.Beam.{IsBeam, IsSpent};
 ghost use Rattle.vs_beam.specs.Searching.{expansion_cost};
 

@@ -1,5 +1,5 @@
 ghost use Rattle.std.specs.Prelude.{◌≡◌, ◌+◌, ◌≤◌, Bool, length};
-ghost use Rattle.vs_rank.specs.Passing.{Attribute, Answers};
+ghost use Rattle.vs_rank.specs.Tests.{Attribute, Answers};
 ghost use Rattle.vs_beam.specs.Beam.{HasWords, key_at, attr_at};
 
 use std::sync::ledger::Ledger;

@@ -22,7 +22,7 @@ impl Search {
     ghost use Rattle.std.specs.Prelude.{◌≡◌, ℕ, ◌+◌, ◌<◌, ◌≤◌, ◌↔◌, Bool, [], length, IsSome, IfSome, IfNone, IfOk, OnOk, Contains, IsTrue};
     ghost use Rattle.vs_slot.specs.Marks.{IsEmptied};
     ghost use Rattle.vs_graph.specs.Good.{IsLinked, StandsAt, links_at};
-    ghost use Rattle.vs_rank.specs.Passing.{Attribute, Answers};
+    ghost use Rattle.vs_rank.specs.Tests.{Attribute, Answers};
     ghost use Rattle.vs_beam.specs.Beam.{HasWords, IsSpent, IsBeam};
     ghost use Rattle.vs_beam.specs.Searching.{IsSearch, AreFoundBy, IsStarted, IsTried, IsOffered, IsAdvanced, IsOver, IsSameSearch, IsVisited, IsExpanded, size_left, expansion_cost};
 
