@@ -1,7 +1,7 @@
 //! The messages of a stream of requests that comes in pieces.
 #![tactic(auto)]
 
-ghost use Rattle.std.specs.Prelude.{true, false, ◌≡◌, ◌↔◌, IsTrue, ◌<◌, ◌≤◌, ◌+◌, ◌-◌, ◌^◌, [], ◌∷◌, ◌++◌, List, ℕ, length, take, IfNone, OnSome};
+ghost use Rattle.std.specs.Prelude.{true, false, ◌≡◌, ◌↔◌, IsTrue, ◌<◌, ◌≤◌, ◌+◌, ◌-◌, ◌^◌, [], ◌∷◌, ◌++◌, List, ℕ, length, take, IfNone, OnSome, IfOk};
 ghost use Rattle.vs_defs.specs.Bytes.{Bytes};
 ghost use Rattle.vs_defs.specs.Stream.{Message, without_return};
 ghost use Rattle.vs_stream.specs.Machine.{start, star, body, step, begin_bulks, count_step, len_step, line_step, after_bulk, one_word, State};
@@ -13,7 +13,10 @@ ghost use Rattle.std.specs.Option.{option_to_list};
 use std::alloc::Global;
 use std::collections::VecDeque;
 use std::mem;
-use vs_outside::{List, Text};
+use vs_outside::{List, NoMemory, Text};
+
+// The room of a list of this many words is kept for the next message.
+const WORDS_KEPT: usize = 1024;
 
 /// What is wrong with a stream.
 #[derive(Clone, Copy, Debug, PartialEq, Eq)]
@@ -63,7 +66,7 @@ pub struct Decoder {
     left: u32,
     sum: u32,
     want: u32,
-    words: List<Text>,
+    words: Vec<Text>,
     word: Vec<u8>,
     ready: VecDeque<List<Text>>,
     ghost value_in_range: { value ≤ 65536 },
@@ -83,23 +86,44 @@ impl Decoder {
         };
     }
 
-    // The message is whole.
+    // The message is whole. Its words move into a list of their exact number; a longer list than those kept for reuse is handed
+    // out as it is.
     fn give(&mut self)
-        ensures state { NotLost self.new → reader_of self.new ≡ reading (self.old.ready.items ++ worded self.old.words) start }
+        ensures state { NotLost self.new → reader_of self.new ≡ reading (self.old.ready.items ++ worded self.old.words.items) start }
         ensures lost { self.new.stage ≡ Stage.Lost → self.new.ready.items ≡ self.old.ready.items }
         ensures fed { self.new.fed ≡ self.old.fed }
     {
         self.stage = Stage::Start;
-        let words = mem::replace(&mut self.words, List::new(self.alloc));
-        if words.len() > 0 && self.ready.push_back(words).is_err() {
-            self.stage = Stage::Lost;
+        if self.words.len() == 0 {
+            return;
         }
+        match self.listed() {
+            Ok(words) => {
+                if self.ready.push_back(List::from_vec(words)).is_err() {
+                    self.stage = Stage::Lost;
+                }
+            }
+            Err(_) => self.stage = Stage::Lost,
+        }
+    }
+
+    // The words as a list of their own.
+    fn listed(&mut self) -> Result<Vec<Text>, NoMemory>
+        ensures words { IfOk result (λ words. words.items ≡ self.old.words.items) }
+        ensures same { (self.new.ready.items ≡ self.old.ready.items) × (self.new.fed ≡ self.old.fed) × (self.new.stage ≡ self.old.stage) }
+    {
+        if self.words.len() > WORDS_KEPT {
+            return Ok(mem::replace(&mut self.words, Vec::new(self.alloc)));
+        }
+        let mut words = Vec::with_capacity(self.alloc, self.words.len())?;
+        words.append(&mut self.words)?;
+        Ok(words)
     }
 
     // The bulk is whole.
     fn end_bulk(&mut self)
         ensures state { NotLost self.new → reader_of self.new
-            ≡ taken self.old.fed self.old.ready.items (after_bulk self.old.left self.old.sum (self.old.words ++ self.old.word.items ∷ [])) }
+            ≡ taken self.old.fed self.old.ready.items (after_bulk self.old.left self.old.sum (self.old.words.items ++ self.old.word.items ∷ [])) }
         ensures lost { self.new.stage ≡ Stage.Lost → self.new.ready.items ≡ self.old.ready.items }
         ensures fed { self.new.fed ≡ self.old.fed }
     {
@@ -142,7 +166,7 @@ impl Decoder {
 
     // A digit of a length, or what ends it.
     fn length_byte(&mut self, byte: u8)
-        ensures state { reader_of self.new ≡ taken self.old.fed self.old.ready.items (len_step self.old.left self.old.sum self.old.words self.old.digits self.old.value byte) }
+        ensures state { reader_of self.new ≡ taken self.old.fed self.old.ready.items (len_step self.old.left self.old.sum self.old.words.items self.old.digits self.old.value byte) }
         ensures fed { self.new.fed ≡ self.old.fed }
     {
         if byte.is_ascii_digit() && self.digits < 7 {
@@ -169,7 +193,7 @@ impl Decoder {
 
     // A byte of an inline line.
     fn line_byte(&mut self, byte: u8)
-        ensures state { NotLost self.new → reader_of self.new ≡ taken self.old.fed self.old.ready.items (line_step self.old.value self.old.words self.old.word.items byte) }
+        ensures state { NotLost self.new → reader_of self.new ≡ taken self.old.fed self.old.ready.items (line_step self.old.value self.old.words.items self.old.word.items byte) }
         ensures lost { self.new.stage ≡ Stage.Lost → self.new.ready.items ≡ self.old.ready.items }
         ensures fed { self.new.fed ≡ self.old.fed }
     {
@@ -195,7 +219,7 @@ impl Decoder {
 
     // A run of an inline line is whole; an empty one is no word.
     fn end_run(&mut self)
-        ensures words { NotLost self.new → self.new.words ≡ self.old.words ++ one_word self.old.word.items }
+        ensures words { NotLost self.new → self.new.words.items ≡ self.old.words.items ++ one_word self.old.word.items }
         ensures word { NotLost self.new → self.new.word.items ≡ [] }
         ensures stage { NotLost self.new → self.new.stage ≡ self.old.stage }
         ensures same { (self.new.value ≡ self.old.value) × (self.new.ready.items ≡ self.old.ready.items) × (self.new.fed ≡ self.old.fed) }
@@ -211,7 +235,7 @@ impl Decoder {
 
     // The inline line is whole.
     fn end_line(&mut self)
-        ensures state { NotLost self.new → reader_of self.new ≡ reading (self.old.ready.items ++ worded (self.old.words ++ one_word (without_return self.old.word.items))) start }
+        ensures state { NotLost self.new → reader_of self.new ≡ reading (self.old.ready.items ++ worded (self.old.words.items ++ one_word (without_return self.old.word.items))) start }
         ensures lost { self.new.stage ≡ Stage.Lost → self.new.ready.items ≡ self.old.ready.items }
         ensures fed { self.new.fed ≡ self.old.fed }
     {
@@ -227,7 +251,7 @@ impl Decoder {
     // Without one carriage return at the end.
     fn drop_return(&mut self)
         ensures word { self.new.word.items ≡ without_return self.old.word.items }
-        ensures same { (self.new.words ≡ self.old.words) × (self.new.value ≡ self.old.value) × (self.new.ready.items ≡ self.old.ready.items) × (self.new.fed ≡ self.old.fed) }
+        ensures same { (self.new.words.items ≡ self.old.words.items) × (self.new.value ≡ self.old.value) × (self.new.ready.items ≡ self.old.ready.items) × (self.new.fed ≡ self.old.fed) }
     {
         let len = self.word.len();
         if len == 0 {
@@ -250,7 +274,7 @@ impl Decoder {
             return;
         }
         self.value = 0;
-        self.words = List::new(self.alloc);
+        self.words.clear();
         self.word = Vec::new(self.alloc);
         self.line_byte(byte);
     }
@@ -271,30 +295,24 @@ impl Decoder {
 
     // The count's line is whole.
     fn begin_bulks(&mut self)
-        ensures lost { self.new.stage ≡ Stage.Lost → self.new.ready.items ≡ self.old.ready.items }
-        ensures state { NotLost self.new → reader_of self.new ≡ taken self.old.fed self.old.ready.items (begin_bulks self.old.value) }
+        ensures state { reader_of self.new ≡ taken self.old.fed self.old.ready.items (begin_bulks self.old.value) }
         ensures fed { self.new.fed ≡ self.old.fed }
     {
         if self.value == 0 {
             self.stage = Stage::Start;
             return;
         }
-        match Vec::with_capacity(self.alloc, (self.value as usize).min(1024)) {
-            Ok(words) => {
-                self.words = List::from_vec(words);
-                self.left = self.value - 1;
-                self.value = 0;
-                self.sum = 0;
-                self.stage = Stage::Bulk;
-            }
-            Err(_) => self.stage = Stage::Lost,
-        }
+        self.words.clear();
+        self.left = self.value - 1;
+        self.value = 0;
+        self.sum = 0;
+        self.stage = Stage::Bulk;
     }
 
     // The length's line is whole.
     fn begin_body(&mut self)
         ensures state { NotLost self.new → reader_of self.new
-            ≡ reading self.old.ready.items (body self.old.left (self.old.sum + self.old.value) self.old.words self.old.value []) }
+            ≡ reading self.old.ready.items (body self.old.left (self.old.sum + self.old.value) self.old.words.items self.old.value []) }
         ensures lost { self.new.stage ≡ Stage.Lost → self.new.ready.items ≡ self.old.ready.items }
         ensures fed { self.new.fed ≡ self.old.fed }
     {
@@ -387,7 +405,7 @@ impl Decoder {
         requires want { 0 < self.old.want }
         requires room { self.old.fed + length rest.now < 2 ^ 63 }
         ensures state { NotLost self.new → reader_of self.new
-            ≡ reading self.old.ready.items (body self.old.left self.old.sum self.old.words (self.old.want - result) (self.old.word.items ++ take result rest.now)) }
+            ≡ reading self.old.ready.items (body self.old.left self.old.sum self.old.words.items (self.old.want - result) (self.old.word.items ++ take result rest.now)) }
         ensures lost { self.new.stage ≡ Stage.Lost → self.new.ready.items ≡ self.old.ready.items }
         ensures some { 0 < result }
         ensures within { result ≤ length rest.now }
@@ -468,7 +486,7 @@ impl Decoder {
             left: 0,
             sum: 0,
             want: 0,
-            words: List::new(alloc),
+            words: Vec::new(alloc),
             word: Vec::new(alloc),
             ready: VecDeque::new(alloc),
         }
