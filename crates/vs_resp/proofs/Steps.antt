@@ -60,11 +60,11 @@ going_at Lost ms digits value left sum want words word g = absurd g
 pub reading_of : (d : Decoder) (fed : Bytes) (given : List Message) → IsGoing d.stage → Stands d fed given →
     (s : State) × WhileReading true d.fed (given ++ d.ready.items) s fed × ((d.stage ≡ Start → ⊥) → IsInside s)
 reading_of d fed given g m =
-    let s = going_at d.stage d.ready.items d.digits d.value d.left d.sum d.want d.words.items d.word.items g in
+    let s = going_at d.stage d.ready.items d.digits d.value d.left d.sum d.want d.words d.word.items g in
     (s.0, subst (λ (r : Reader). Means true d.fed (prefixed given r) fed) s.1 m, s.2)
 
-at_its_stage : (d : Decoder) (t : Stage) → d.stage ≡ t → reader_of d ≡ at_stage t d.ready.items d.digits d.value d.left d.sum d.want d.words.items d.word.items
-at_its_stage d t is = ap (λ (t : Stage). at_stage t d.ready.items d.digits d.value d.left d.sum d.want d.words.items d.word.items) is
+at_its_stage : (d : Decoder) (t : Stage) → d.stage ≡ t → reader_of d ≡ at_stage t d.ready.items d.digits d.value d.left d.sum d.want d.words d.word.items
+at_its_stage d t is = ap (λ (t : Stage). at_stage t d.ready.items d.digits d.value d.left d.sum d.want d.words d.word.items) is
 
 broken_of : (d : Decoder) (fed : Bytes) (given : List Message) (fault : Fault) (at : ℕ) → d.stage ≡ Faulty fault at → Stands d fed given → AfterFault true (given ++ d.ready.items) (fault_of fault) at fed
 broken_of d fed given fault at is m = subst (λ (r : Reader). Means true d.fed (prefixed given r) fed) (at_its_stage d (Faulty fault at) is) m
@@ -109,20 +109,20 @@ byte_stands d e fed given c xs one g state gone count m =
 
 -- the bytes of a bulk, of which there are n
 pub body_stands : (d e : Decoder) (fed : Bytes) (given : List Message) (xs : Bytes) (n : ℕ) → length xs ≡ n → d.stage ≡ Body → n ≤ d.want →
-    (NotLost e → reader_of e ≡ reading d.ready.items (body d.left d.sum d.words.items (d.want - n) (d.word.items ++ xs))) →
+    (NotLost e → reader_of e ≡ reading d.ready.items (body d.left d.sum d.words (d.want - n) (d.word.items ++ xs))) →
     (e.stage ≡ Lost → e.ready.items ≡ d.ready.items) → e.fed ≡ d.fed + n → Stands d fed given → Stands e (fed ++ xs) given
 body_stands d e fed given xs n is stage within state gone count m =
     let going : IsGoing d.stage = subst (λ (t : Stage). IsGoing t) (sym stage) tt in
-    let a : WhileReading true d.fed (given ++ d.ready.items) (body d.left d.sum d.words.items d.want d.word.items) fed =
+    let a : WhileReading true d.fed (given ++ d.ready.items) (body d.left d.sum d.words d.want d.word.items) fed =
     subst (λ (r : Reader). Means true d.fed (prefixed given r) fed) (at_its_stage d Body stage) m in
     let le : length xs ≤ d.want = subst (λ (i : ℕ). i ≤ d.want) (sym is) within in
-    let more = subst (λ (i : ℕ). WhileReading true (d.fed + i) (given ++ d.ready.items) (body d.left d.sum d.words.items (d.want - i) (d.word.items ++ xs)) (fed ++ xs)) is
-    (reading_body true d.fed (given ++ d.ready.items) d.left d.sum d.words.items d.want d.word.items fed xs le a) in
+    let more = subst (λ (i : ℕ). WhileReading true (d.fed + i) (given ++ d.ready.items) (body d.left d.sum d.words (d.want - i) (d.word.items ++ xs)) (fed ++ xs)) is
+    (reading_body true d.fed (given ++ d.ready.items) d.left d.sum d.words d.want d.word.items fed xs le a) in
     kept_or (Stands e (fed ++ xs) given) e.stage
     (λ is_lost. byte_lost d e fed xs given e.fed going is_lost (gone is_lost) m)
     (λ kept.
     subst (λ (r : Reader). Means true e.fed (prefixed given r) (fed ++ xs)) (sym (state kept))
-    (subst (λ (n' : ℕ). Means true n' (reading (given ++ d.ready.items) (body d.left d.sum d.words.items (d.want - n) (d.word.items ++ xs))) (fed ++ xs)) (sym count) more))
+    (subst (λ (n' : ℕ). Means true n' (reading (given ++ d.ready.items) (body d.left d.sum d.words (d.want - n) (d.word.items ++ xs))) (fed ++ xs)) (sym count) more))
 
 -- After a fault, and after want of memory, what comes later is not looked at.
 pub stays : (d : Decoder) (fed more : Bytes) (given : List Message) → (IsGoing d.stage → ⊥) → Stands d fed given → Stands d (fed ++ more) given
@@ -198,11 +198,11 @@ prefixed_at (Faulty fault at) given ms digits value left sum want words word = r
 prefixed_at Lost given ms digits value left sum want words word = refl
 
 pub next_stands : (d e : Decoder) (fed : Bytes) (given more : List Message) → e.stage ≡ d.stage → e.digits ≡ d.digits → e.value ≡ d.value → e.left ≡ d.left → e.sum ≡ d.sum → e.want ≡ d.want →
-    e.words.items ≡ d.words.items → e.word.items ≡ d.word.items → d.ready.items ≡ more ++ e.ready.items → e.fed ≡ d.fed → Stands d fed given → Stands e fed (given ++ more)
+    e.words ≡ d.words → e.word.items ≡ d.word.items → d.ready.items ≡ more ++ e.ready.items → e.fed ≡ d.fed → Stands d fed given → Stands e fed (given ++ more)
 next_stands d e fed given more stage digits value left sum want words word ready count m =
     let all : given ++ d.ready.items ≡ (given ++ more) ++ e.ready.items = ap (λ (l : List Message). given ++ l) ready ∙ sym (append_assoc given more e.ready.items) in
-    let a : prefixed given (reader_of d) ≡ at_stage d.stage (given ++ d.ready.items) d.digits d.value d.left d.sum d.want d.words.items d.word.items = prefixed_at d.stage given d.ready.items d.digits d.value d.left d.sum d.want d.words.items d.word.items in
-    let b : prefixed (given ++ more) (reader_of e) ≡ at_stage e.stage ((given ++ more) ++ e.ready.items) e.digits e.value e.left e.sum e.want e.words.items e.word.items = prefixed_at e.stage (given ++ more) e.ready.items e.digits e.value e.left e.sum e.want e.words.items e.word.items in
+    let a : prefixed given (reader_of d) ≡ at_stage d.stage (given ++ d.ready.items) d.digits d.value d.left d.sum d.want d.words d.word.items = prefixed_at d.stage given d.ready.items d.digits d.value d.left d.sum d.want d.words d.word.items in
+    let b : prefixed (given ++ more) (reader_of e) ≡ at_stage e.stage ((given ++ more) ++ e.ready.items) e.digits e.value e.left e.sum e.want e.words e.word.items = prefixed_at e.stage (given ++ more) e.ready.items e.digits e.value e.left e.sum e.want e.words e.word.items in
     let same : prefixed given (reader_of d) ≡ prefixed (given ++ more) (reader_of e) = cc in
     subst (λ (n : ℕ). Means true n (prefixed (given ++ more) (reader_of e)) fed) (sym count)
     (subst (λ (r : Reader). Means true d.fed r fed) same m)

@@ -42,7 +42,7 @@ at_stage (Faulty fault at) ms digits value left sum want words word = broken ms 
 at_stage Lost ms digits value left sum want words word = lost ms
 
 abbrev pub reader_of : Decoder → Reader
-reader_of d = at_stage d.stage d.ready.items d.digits d.value d.left d.sum d.want d.words.items d.word.items
+reader_of d = at_stage d.stage d.ready.items d.digits d.value d.left d.sum d.want d.words d.word.items
 
 abbrev pub NotLost : Decoder → Type 0
 NotLost d = d.stage ≡ Lost → ⊥

@@ -1,7 +1,7 @@
 //! The messages of a stream of requests that comes in pieces.
 #![tactic(auto)]
 
-ghost use Rattle.std.specs.Prelude.{true, false, ◌≡◌, ◌↔◌, IsTrue, ◌<◌, ◌≤◌, ◌+◌, ◌-◌, ◌^◌, [], ◌∷◌, ◌++◌, List, ℕ, length, take, IfNone, OnSome, IfOk};
+ghost use Rattle.std.specs.Prelude.{true, false, ◌≡◌, ◌↔◌, IsTrue, ◌<◌, ◌≤◌, ◌+◌, ◌-◌, ◌^◌, [], ◌∷◌, ◌++◌, List, ℕ, length, take, IfNone, OnSome};
 ghost use Rattle.vs_defs.specs.Bytes.{Bytes};
 ghost use Rattle.vs_defs.specs.Stream.{Message, without_return};
 ghost use Rattle.vs_stream.specs.Machine.{start, star, body, step, begin_bulks, count_step, len_step, line_step, after_bulk, one_word, State};
@@ -13,27 +13,38 @@ ghost use Rattle.std.specs.Option.{option_to_list};
 use std::alloc::Global;
 use std::collections::VecDeque;
 use std::mem;
-use vs_outside::{List, NoMemory, Text};
 
-// The room of a list of this many words is kept for the next message.
-const WORDS_KEPT: usize = 1024;
+#[cfg(test)]
+mod tests;
 
-/// What is wrong with a stream.
+use vs_outside::{List, Text};
+
+/// What is wrong with a stream, by the byte at which it ceases to begin a stream. The grammar is that of RESP; the limits
+/// and the digits of a number, 1 to 7, are this project's.
 #[derive(Clone, Copy, Debug, PartialEq, Eq)]
 pub enum Fault {
+    /// A byte that a count's line doesn't allow.
     BadCount,
+    /// The digit by which a count passes 65,536.
     CountTooLarge,
+    /// A byte other than `$` where a bulk begins.
     ExpectedBulk,
+    /// A byte that a length's line doesn't allow.
     BadLength,
+    /// The digit by which a length passes 65,536.
     LengthTooLarge,
+    /// The digit by which the lengths of one message pass 4,194,304 together.
     MessageTooLarge,
+    /// A byte behind a bulk's own that isn't of its line end.
     BadEnd,
+    /// The byte behind 65,536 bytes of an inline line, if it isn't the line feed.
     InlineTooLong,
 }
 
 #[derive(Clone, Copy, Debug, PartialEq, Eq)]
 pub enum FeedError {
     NoMemory,
+    /// `at` is the place of the byte, counted from 0, from the connection's first byte on.
     Protocol { fault: Fault, at: u64 },
 }
 
@@ -56,6 +67,11 @@ enum Stage {
     Lost,
 }
 
+/// The messages of one connection's bytes: arrays of bulks, and inline lines. Each byte is looked at once, and a word's
+/// bytes are copied once, into the `Text` that is handed out. Messages without a word are skipped.
+///
+/// After a fault each later feed answers the same, and the messages before it still come. After want of memory each later
+/// feed answers that, and the messages that still come are the next of those that were fed.
 #[derive(Drop)]
 pub struct Decoder {
     alloc: Global,
@@ -66,7 +82,7 @@ pub struct Decoder {
     left: u32,
     sum: u32,
     want: u32,
-    words: Vec<Text>,
+    words: List<Text>,
     word: Vec<u8>,
     ready: VecDeque<List<Text>>,
     ghost value_in_range: { value ≤ 65536 },
@@ -86,44 +102,23 @@ impl Decoder {
         };
     }
 
-    // The message is whole. Its words move into a list of their exact number; a longer list than those kept for reuse is handed
-    // out as it is.
+    // The message is whole.
     fn give(&mut self)
-        ensures state { NotLost self.new → reader_of self.new ≡ reading (self.old.ready.items ++ worded self.old.words.items) start }
+        ensures state { NotLost self.new → reader_of self.new ≡ reading (self.old.ready.items ++ worded self.old.words) start }
         ensures lost { self.new.stage ≡ Stage.Lost → self.new.ready.items ≡ self.old.ready.items }
         ensures fed { self.new.fed ≡ self.old.fed }
     {
         self.stage = Stage::Start;
-        if self.words.len() == 0 {
-            return;
+        let words = mem::replace(&mut self.words, List::new(self.alloc));
+        if words.len() > 0 && self.ready.push_back(words).is_err() {
+            self.stage = Stage::Lost;
         }
-        match self.listed() {
-            Ok(words) => {
-                if self.ready.push_back(List::from_vec(words)).is_err() {
-                    self.stage = Stage::Lost;
-                }
-            }
-            Err(_) => self.stage = Stage::Lost,
-        }
-    }
-
-    // The words as a list of their own.
-    fn listed(&mut self) -> Result<Vec<Text>, NoMemory>
-        ensures words { IfOk result (λ words. words.items ≡ self.old.words.items) }
-        ensures same { (self.new.ready.items ≡ self.old.ready.items) × (self.new.fed ≡ self.old.fed) × (self.new.stage ≡ self.old.stage) }
-    {
-        if self.words.len() > WORDS_KEPT {
-            return Ok(mem::replace(&mut self.words, Vec::new(self.alloc)));
-        }
-        let mut words = Vec::with_capacity(self.alloc, self.words.len())?;
-        words.append(&mut self.words)?;
-        Ok(words)
     }
 
     // The bulk is whole.
     fn end_bulk(&mut self)
         ensures state { NotLost self.new → reader_of self.new
-            ≡ taken self.old.fed self.old.ready.items (after_bulk self.old.left self.old.sum (self.old.words.items ++ self.old.word.items ∷ [])) }
+            ≡ taken self.old.fed self.old.ready.items (after_bulk self.old.left self.old.sum (self.old.words ++ self.old.word.items ∷ [])) }
         ensures lost { self.new.stage ≡ Stage.Lost → self.new.ready.items ≡ self.old.ready.items }
         ensures fed { self.new.fed ≡ self.old.fed }
     {
@@ -166,7 +161,7 @@ impl Decoder {
 
     // A digit of a length, or what ends it.
     fn length_byte(&mut self, byte: u8)
-        ensures state { reader_of self.new ≡ taken self.old.fed self.old.ready.items (len_step self.old.left self.old.sum self.old.words.items self.old.digits self.old.value byte) }
+        ensures state { reader_of self.new ≡ taken self.old.fed self.old.ready.items (len_step self.old.left self.old.sum self.old.words self.old.digits self.old.value byte) }
         ensures fed { self.new.fed ≡ self.old.fed }
     {
         if byte.is_ascii_digit() && self.digits < 7 {
@@ -193,7 +188,7 @@ impl Decoder {
 
     // A byte of an inline line.
     fn line_byte(&mut self, byte: u8)
-        ensures state { NotLost self.new → reader_of self.new ≡ taken self.old.fed self.old.ready.items (line_step self.old.value self.old.words.items self.old.word.items byte) }
+        ensures state { NotLost self.new → reader_of self.new ≡ taken self.old.fed self.old.ready.items (line_step self.old.value self.old.words self.old.word.items byte) }
         ensures lost { self.new.stage ≡ Stage.Lost → self.new.ready.items ≡ self.old.ready.items }
         ensures fed { self.new.fed ≡ self.old.fed }
     {
@@ -219,7 +214,7 @@ impl Decoder {
 
     // A run of an inline line is whole; an empty one is no word.
     fn end_run(&mut self)
-        ensures words { NotLost self.new → self.new.words.items ≡ self.old.words.items ++ one_word self.old.word.items }
+        ensures words { NotLost self.new → self.new.words ≡ self.old.words ++ one_word self.old.word.items }
         ensures word { NotLost self.new → self.new.word.items ≡ [] }
         ensures stage { NotLost self.new → self.new.stage ≡ self.old.stage }
         ensures same { (self.new.value ≡ self.old.value) × (self.new.ready.items ≡ self.old.ready.items) × (self.new.fed ≡ self.old.fed) }
@@ -235,7 +230,7 @@ impl Decoder {
 
     // The inline line is whole.
     fn end_line(&mut self)
-        ensures state { NotLost self.new → reader_of self.new ≡ reading (self.old.ready.items ++ worded (self.old.words.items ++ one_word (without_return self.old.word.items))) start }
+        ensures state { NotLost self.new → reader_of self.new ≡ reading (self.old.ready.items ++ worded (self.old.words ++ one_word (without_return self.old.word.items))) start }
         ensures lost { self.new.stage ≡ Stage.Lost → self.new.ready.items ≡ self.old.ready.items }
         ensures fed { self.new.fed ≡ self.old.fed }
     {
@@ -251,7 +246,7 @@ impl Decoder {
     // Without one carriage return at the end.
     fn drop_return(&mut self)
         ensures word { self.new.word.items ≡ without_return self.old.word.items }
-        ensures same { (self.new.words.items ≡ self.old.words.items) × (self.new.value ≡ self.old.value) × (self.new.ready.items ≡ self.old.ready.items) × (self.new.fed ≡ self.old.fed) }
+        ensures same { (self.new.words ≡ self.old.words) × (self.new.value ≡ self.old.value) × (self.new.ready.items ≡ self.old.ready.items) × (self.new.fed ≡ self.old.fed) }
     {
         let len = self.word.len();
         if len == 0 {
@@ -274,7 +269,7 @@ impl Decoder {
             return;
         }
         self.value = 0;
-        self.words.clear();
+        self.words = List::new(self.alloc);
         self.word = Vec::new(self.alloc);
         self.line_byte(byte);
     }
@@ -295,24 +290,30 @@ impl Decoder {
 
     // The count's line is whole.
     fn begin_bulks(&mut self)
-        ensures state { reader_of self.new ≡ taken self.old.fed self.old.ready.items (begin_bulks self.old.value) }
+        ensures lost { self.new.stage ≡ Stage.Lost → self.new.ready.items ≡ self.old.ready.items }
+        ensures state { NotLost self.new → reader_of self.new ≡ taken self.old.fed self.old.ready.items (begin_bulks self.old.value) }
         ensures fed { self.new.fed ≡ self.old.fed }
     {
         if self.value == 0 {
             self.stage = Stage::Start;
             return;
         }
-        self.words.clear();
-        self.left = self.value - 1;
-        self.value = 0;
-        self.sum = 0;
-        self.stage = Stage::Bulk;
+        match Vec::with_capacity(self.alloc, (self.value as usize).min(1024)) {
+            Ok(words) => {
+                self.words = List::from_vec(words);
+                self.left = self.value - 1;
+                self.value = 0;
+                self.sum = 0;
+                self.stage = Stage::Bulk;
+            }
+            Err(_) => self.stage = Stage::Lost,
+        }
     }
 
     // The length's line is whole.
     fn begin_body(&mut self)
         ensures state { NotLost self.new → reader_of self.new
-            ≡ reading self.old.ready.items (body self.old.left (self.old.sum + self.old.value) self.old.words.items self.old.value []) }
+            ≡ reading self.old.ready.items (body self.old.left (self.old.sum + self.old.value) self.old.words self.old.value []) }
         ensures lost { self.new.stage ≡ Stage.Lost → self.new.ready.items ≡ self.old.ready.items }
         ensures fed { self.new.fed ≡ self.old.fed }
     {
@@ -405,7 +406,7 @@ impl Decoder {
         requires want { 0 < self.old.want }
         requires room { self.old.fed + length rest.now < 2 ^ 63 }
         ensures state { NotLost self.new → reader_of self.new
-            ≡ reading self.old.ready.items (body self.old.left self.old.sum self.old.words.items (self.old.want - result) (self.old.word.items ++ take result rest.now)) }
+            ≡ reading self.old.ready.items (body self.old.left self.old.sum self.old.words (self.old.want - result) (self.old.word.items ++ take result rest.now)) }
         ensures lost { self.new.stage ≡ Stage.Lost → self.new.ready.items ≡ self.old.ready.items }
         ensures some { 0 < result }
         ensures within { result ≤ length rest.now }
@@ -486,13 +487,13 @@ impl Decoder {
             left: 0,
             sum: 0,
             want: 0,
-            words: Vec::new(alloc),
+            words: List::new(alloc),
             word: Vec::new(alloc),
             ready: VecDeque::new(alloc),
         }
     }
 
-    /// Takes the next piece of the stream.
+    /// Takes the next piece of the stream; how the bytes are cut into pieces makes no difference.
     pub fn feed(&mut self, piece: &[u8]) -> Result<(), FeedError>
         requires room { bytes_taken self.old + length piece.now < 2 ^ 63 }
         ensures stands { (fed : Bytes) (given : List Message) → Stands self.old fed given → Stands self.new (fed ++ piece.now) given }
@@ -523,7 +524,7 @@ impl Decoder {
         }
     }
 
-    /// The next message that has a word.
+    /// The next message that has a word, of those that were fed whole. It takes no memory.
     pub fn next(&mut self) -> Option<List<Text>>
         ensures stands { (fed : Bytes) (given : List Message) → Stands self.old fed given → Stands self.new fed (given ++ option_to_list result) }
         ensures first { (fed : Bytes) (given : List Message) → Stands self.old fed given → GivenFirst true fed (given ++ option_to_list result) }
@@ -535,7 +536,7 @@ impl Decoder {
         self.ready.pop_front()
     }
 
-    /// Whether all that was fed is whole messages.
+    /// Whether all that was fed is whole messages. It takes no memory.
     pub fn at_border(&self) -> bool
         ensures { (fed : Bytes) (given : List Message) → Stands self.now fed given → (failure self.now ≡ Some FeedError.NoMemory → ⊥) → IsTrue result ↔ IsStream true fed }
     {
