@@ -4,7 +4,9 @@
 mod changes;
 mod edit;
 mod graph;
+mod laws;
 mod list_nodes;
+mod newcomer;
 mod node;
 mod nodes;
 mod overwriting;
@@ -15,7 +17,11 @@ mod steps;
 pub use changes::{add_link, drop_link, put_links};
 pub use edit::Edit;
 pub use graph::Graph;
+pub use laws::{
+    a_good_graph_is_a_good_set, links_by_ids_are_links_by_names, tables_fix_the_links_by_names,
+};
 pub use list_nodes::ListNodes;
+pub use newcomer::{no_links, put_newcomer};
 pub use node::{Attr, Body, Node};
 pub use nodes::{FreshNodes, Nodes};
 pub use reading::{degree, fewer, links, live_copy, live_node, more};

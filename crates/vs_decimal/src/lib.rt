@@ -1,0 +1,14 @@
+//! Decimal texts: numbers that are read from bytes, and the printed score.
+#![tactic(auto)]
+
+mod fixed;
+mod number;
+mod score;
+mod whole;
+
+pub use fixed::read_fixed;
+pub use score::{ScoreText, score_text};
+pub use whole::read_int;
+
+#[cfg(test)]
+mod tests;

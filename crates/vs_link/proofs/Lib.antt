@@ -1,0 +1,5 @@
+pub mod Picked
+pub mod Offered
+pub mod Targets
+pub mod Turns
+pub mod Wholes

@@ -1,0 +1,58 @@
+ghost use Rattle.std.specs.Prelude.{◌≡◌, ◌<◌, ◌+◌, ◌≤◌, Some, OnOk};
+ghost use Rattle.vs_graph.specs.Edits.{overwritten};
+ghost use Rattle.vs_graph.specs.Good.{links_at, layers_at};
+ghost use Rattle.vs_graph.specs.Table.{joined, displaced};
+ghost use Rattle.vs_graph.specs.Relinks.{Relinks};
+
+use std::alloc::Global;
+use std::sync::ledger::Ledger;
+use vs_graph::{Edit, Node, Nodes, Steps, add_link, drop_link, fewer, links, more, put_links};
+use vs_outside::NoMemory;
+
+/// Links `x` and `y`, whose node is at hand.
+pub(crate) fn join<N: Nodes, L: Ledger>(
+    alloc: Global,
+    edit: &mut Edit,
+    base: &N,
+    x: u32,
+    y: u32,
+    node: Node,
+    layer: u8,
+    reads: &mut Steps<L>,
+) -> Result<(), NoMemory>
+    requires there { overwritten edit.old (N.at base.now) y ≡ Some node }
+    requires y_stands { layer < layers_at (overwritten edit.old (N.at base.now)) y }
+    requires x_stands { layer < layers_at (overwritten edit.old (N.at base.now)) x }
+    ensures links { OnOk result (Relinks (overwritten edit.old (N.at base.now)) (overwritten edit.new (N.at base.now)) layer (joined (links_at (overwritten edit.old (N.at base.now)) layer) x y)) }
+    ensures told { reads.new ≤ reads.old + 1 }
+{
+    let list = more(alloc, links(&node, layer), x)?;
+    put_links(edit, y, node, layer, list)?;
+    add_link(alloc, edit, base, x, y, layer, reads)
+}
+
+/// Gives `y`, whose node is at hand, a link to `x` in the place of the one to `w`.
+pub(crate) fn displace<N: Nodes, L: Ledger>(
+    alloc: Global,
+    edit: &mut Edit,
+    base: &N,
+    x: u32,
+    y: u32,
+    node: Node,
+    w: u32,
+    layer: u8,
+    reads: &mut Steps<L>,
+) -> Result<(), NoMemory>
+    requires there { overwritten edit.old (N.at base.now) y ≡ Some node }
+    requires y_stands { layer < layers_at (overwritten edit.old (N.at base.now)) y }
+    requires x_stands { layer < layers_at (overwritten edit.old (N.at base.now)) x }
+    requires w_stands { layer < layers_at (overwritten edit.old (N.at base.now)) w }
+    ensures links { OnOk result (Relinks (overwritten edit.old (N.at base.now)) (overwritten edit.new (N.at base.now)) layer (displaced (links_at (overwritten edit.old (N.at base.now)) layer) x y w)) }
+    ensures told { reads.new ≤ reads.old + 2 }
+{
+    let left = fewer(alloc, links(&node, layer), w)?;
+    let list = more(alloc, left.as_slice(), x)?;
+    put_links(edit, y, node, layer, list)?;
+    drop_link(alloc, edit, base, w, y, layer, reads)?;
+    add_link(alloc, edit, base, x, y, layer, reads)
+}

@@ -1,0 +1,9 @@
+//! How a member is joined at a layer of the graph: whom it is linked to, who accepts it, and the forced link.
+#![tactic(auto)]
+
+mod changes;
+mod layer;
+mod offers;
+mod scan;
+
+pub use layer::link_layer;
