@@ -4,6 +4,7 @@
 mod changes;
 mod edit;
 mod graph;
+mod laws;
 mod list_nodes;
 mod newcomer;
 mod node;
@@ -16,6 +17,9 @@ mod steps;
 pub use changes::{add_link, drop_link, put_links};
 pub use edit::Edit;
 pub use graph::Graph;
+pub use laws::{
+    a_good_graph_is_a_good_set, links_by_ids_are_links_by_names, tables_fix_the_links_by_names,
+};
 pub use list_nodes::ListNodes;
 pub use newcomer::{no_links, put_newcomer};
 pub use node::{Attr, Body, Node};
