@@ -7,3 +7,4 @@ pub mod Extremes
 pub mod Joined
 pub mod Chosen
 pub mod Bynames
+pub mod Drafts

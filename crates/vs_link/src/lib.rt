@@ -6,6 +6,8 @@ mod choice;
 mod layer;
 mod offers;
 mod scan;
+#[cfg(test)]
+mod tests;
 
 pub use choice::select;
 pub use layer::link_layer;
