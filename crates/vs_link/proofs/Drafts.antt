@@ -1,10 +1,11 @@
 -- Members that are named by their ids, as the tests make them: a newcomer's name is new.
-use Rattle.std.proofs.Common.{◌≡◌, ◌≢◌, ℕ, ◌+◌, ◌*◌, ◌/◌, ◌%◌, ◌<◌, ◌≤◌, ◌==◌, Bool, true, false, eqb, List, [], ◌∷◌, ◌++◌, length, get_or, zero, suc, refl, sym, ap, ◌∙◌, subst, arith}
+use Rattle.std.proofs.Common.{◌≡◌, ◌≢◌, ℕ, ◌+◌, ◌*◌, ◌/◌, ◌%◌, ◌<◌, ◌≤◌, ◌==◌, Bool, true, false, eqb, List, [], ◌∷◌, ◌++◌, length, get_or, zero, suc, refl, sym, ap, ◌∙◌, subst, arith, below_more}
 use Rattle.std.specs.Prelude.{Some, None, IfSome, IsSome, IsSomeAnd, option_map, All, nat_eq}
 use Rattle.std.specs.Option.{option_map_or}
 use Rattle.std.specs.List.{IsDistinct}
 use Rattle.std.specs.declared.option.Option.{Option}
 use Rattle.std.proofs.lemmas.Bool.{eqb-true, eqb-false, both_ways}
+use Rattle.vs_rank.specs.declared.Key.{Key}
 use Rattle.vs_graph.specs.declared.node.Node.{Node}
 use Rattle.vs_graph.specs.Good.{body_at, layers_at, links_at, StandsAt, AreLinksGood}
 use Rattle.vs_graph.specs.Newcomer.{AreEmptyLists, ChangesAt, IsNewcomer}
@@ -67,3 +68,14 @@ one_chosen at m dim x y good low stands ne = record {
   one : (k d : ℕ) → k < 1 → (0 < layers_at at (get_or (y ∷ []) k d)) × (get_or (y ∷ []) k d ≢ x)
   one zero d less = (layers_from m dim 0 (at y) (good.nodes y) stands, ne)
   one (suc k) d less = absurd (omega arith)
+
+-- ---- one candidate more
+
+any_key : (keys : List Key) (i : ℕ) (d e : Key) → i < length keys → get_or keys i d ≡ get_or keys i e
+any_key [] i d e h = absurd (omega arith)
+any_key (key ∷ keys) zero d e h = refl
+any_key (key ∷ keys) (suc i) d e h = any_key keys i d e (omega arith)
+
+pub next_live : (at : ℕ → Option Node) (keys : List Key) (i : ℕ) (e : Key) → i < length keys → ((k : ℕ) (d : Key) → k < i → IsSome (at (get_or keys k d).id)) → IsSome (at (get_or keys i e).id)
+    → (k : ℕ) (d : Key) → k < i + 1 → IsSome (at (get_or keys k d).id)
+next_live at keys i e h before live k d less = below_more (λ j. IsSome (at (get_or keys j d).id)) i (λ j short. before j d short) (subst (λ (key : Key). IsSome (at key.id)) (any_key keys i e d h) live) k less

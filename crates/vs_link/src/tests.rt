@@ -1,5 +1,5 @@
 //! Members of level 0 that are joined at layer 0: a hub that is full, and a choice of candidates.
-ghost use Rattle.std.specs.Prelude.{◌≡◌, ◌≢◌, ◌<◌, ℕ, [], true, All, IsSome};
+ghost use Rattle.std.specs.Prelude.{◌≡◌, ◌≢◌, ◌<◌, ℕ, [], true, All, IsSome, is_some};
 ghost use Rattle.vs_graph.specs.Edits.{overwritten};
 ghost use Rattle.vs_graph.specs.Good.{links_at, StandsAt};
 
@@ -57,6 +57,12 @@ fn may_link<N: Nodes, L: Ledger>(
     }
 }
 
+fn is_live<N: Nodes, L: Ledger>(edit: &Edit, base: &N, id: u32, reads: &mut Steps<L>) -> bool
+    ensures { result ≡ is_some (overwritten edit.now (N.at base.now) id) }
+{
+    edit.node(base, id, reads).is_some()
+}
+
 /// Whether all candidates are members.
 fn are_live<N: Nodes, L: Ledger>(
     edit: &Edit,
@@ -67,7 +73,7 @@ fn are_live<N: Nodes, L: Ledger>(
     ensures { result ≡ true → All (λ key. IsSome (overwritten edit.now (N.at base.now) key.id)) keys.now }
 {
     for key in keys {
-        if edit.node(base, key.id, reads).is_none() {
+        if !is_live(edit, base, key.id, reads) {
             return false;
         }
     }
