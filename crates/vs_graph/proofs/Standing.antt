@@ -1,11 +1,10 @@
 -- A good graph stands for a good set: its members, its links by names, and all that is asked of a good set.
-use Rattle.std.proofs.Common.{◌≡◌, ◌≢◌, ℕ, zero, suc, ◌+◌, ◌<◌, ◌≤◌, Bool, true, false, cond, eqb, ◌&&◌, ◌||◌, List, [], ◌∷◌, ◌++◌, length, get_or, map, refl, sym, ap, ◌∙◌, subst, arith, inl, inr}
-use Rattle.std.specs.Prelude.{Some, None, IsSome, is_some, IsTrue, IsSomeAnd, IfSome, MatchOption, nat_eq, nat_lt, nat_le, filter, find, flat_map, option_map, unwrap_or, All, AllPairs}
+use Rattle.std.proofs.Common.{◌≡◌, ◌≢◌, ℕ, zero, suc, ◌+◌, ◌<◌, ◌≤◌, Bool, true, false, cond, eqb, ◌&&◌, ◌||◌, List, [], ◌∷◌, length, map, refl, sym, ap, ◌∙◌, subst, arith, inl, inr}
+use Rattle.std.specs.Prelude.{Some, None, IsSome, is_some, IsSomeAnd, IfSome, MatchOption, nat_eq, nat_lt, nat_le, find, flat_map, option_map, unwrap_or, All, AllPairs}
 use Rattle.std.specs.List.{list_any, IsDistinct, range_with_len}
 use Rattle.std.specs.Option.{option_map_or}
 use Rattle.std.specs.declared.option.Option.{Option}
-use Rattle.std.proofs.lemmas.Bool.{eqb-true, eqb-false, eq-eqb, both_ways, and_parts, and_from, cond-true, ltb-true, leb-true, lt-ltb, le-leb}
-use Rattle.std.proofs.lemmas.List.{length-map}
+use Rattle.std.proofs.lemmas.Bool.{eqb-true, eqb-false, eq-eqb, both_ways, and_parts, and_from, ltb-true, leb-true, lt-ltb, le-leb}
 use Rattle.std.proofs.lemmas.List.Elements.{All-map}
 use Rattle.std.proofs.lemmas.List.Folds.{list_any-append}
 use Rattle.std.proofs.lemmas.List.FromFn.{length-map-range_with_len}
@@ -14,22 +13,22 @@ use Rattle.std.proofs.lemmas.Map.Keys.{IsDistinct-tail}
 use Rattle.std.proofs.lemmas.List.Kept.{AllPairs-cons}
 use Rattle.vs_defs.specs.Bytes.{Bytes, same_name}
 use Rattle.vs_defs.specs.Vector.{ham}
-use Rattle.vs_defs.specs.Words.{FitsDimension, bits_of_words, word_bit, words_ham}
-use Rattle.vs_defs.specs.Store.{Member, Link, Set, is_of_name, member_of, names_of, HasNamesOnce}
+use Rattle.vs_defs.specs.Words.{FitsDimension, bits_of_words, word_bit}
+use Rattle.vs_defs.specs.Store.{Member, Link, is_of_name, member_of, names_of, HasNamesOnce}
 use Rattle.vs_defs.specs.Links.{Links, is_link, bits_at, reaches, stands_at, neighbours, capacity}
 use Rattle.vs_defs.specs.Links as defs
 use Rattle.vs_defs.specs.Good.{Good, IsHighest, JoinsMembers, IsReciprocal, IsWithinCapacity, LeavesNoneAlone}
 use Rattle.vs_bits.proofs.Distances.{words_ham-same}
 use Rattle.vs_graph.specs.declared.node.Node.{Node}
-use Rattle.vs_graph.specs.Good.{body_at, layers_at, links_at, links_of, StandsAt, most_links, IsGoodNode, AreLinksGood, AllLinked, IsEntry, IsGood}
-use Rattle.vs_graph.specs.Bodies.{name_at, words_at, gap}
-use Rattle.vs_graph.specs.Table.{Table, is_in}
+use Rattle.vs_graph.specs.Good.{body_at, layers_at, links_at, most_links, IsGoodNode, AreLinksGood, AllLinked, IsEntry, IsGood}
+use Rattle.vs_graph.specs.Bodies.{words_at, gap}
+use Rattle.vs_graph.specs.Table.{is_in}
 use Rattle.vs_graph.specs.GoodTable.{IsGoodTable}
 use Rattle.vs_graph.specs.Named.{is_live, IsLiveName, AreMembers, IsNamed}
-use Rattle.vs_graph.specs.Standing.{AreIds, member_of_node, member_at, members_of, name_of, links_from, link_list, wiring_of, named_links, set_of}
+use Rattle.vs_graph.specs.Standing.{AreIds, member_of_node, member_at, members_of, name_of, links_from, named_links, set_of}
 use Rattle.vs_graph.proofs.Lists.{head_absent}
 use Rattle.vs_graph.proofs.Goods.{table_from, level_from}
-use Rattle.vs_graph.proofs.Sorts.{In, in_map, from_map, from_filter, in_from_test, test_from_in, any_in, in_any}
+use Rattle.vs_graph.proofs.Sorts.{In, from_filter, in_from_test, test_from_in, any_in, in_any}
 use Rattle.vs_graph.proofs.Naming.{same_test, degree_same, stands_first}
 
 -- ---- lists

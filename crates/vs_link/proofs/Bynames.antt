@@ -13,7 +13,7 @@ use Rattle.vs_graph.proofs.Goods.{table_from, layers_from}
 use Rattle.vs_graph.proofs.Naming.{stands_first, names_fixed}
 use Rattle.vs_graph.proofs.Standing.{are_members, are_named}
 use Rattle.vs_graph.proofs.Renaming.{relinked_named}
-use Rattle.vs_link.specs.Linked.{linked, target, AreChosen, IsFallback}
+use Rattle.vs_link.specs.Linked.{linked, AreChosen, IsFallback}
 use Rattle.vs_link.proofs.Targets.{target_is}
 use Rattle.vs_link.proofs.Joined.{linked_named}
 use Rattle.vs_link.proofs.Wholes.{good_whole, most_above}

@@ -1,6 +1,6 @@
 -- Selection: one step, what is chosen of whom, and that it is the same by ids and by names.
-use Rattle.std.proofs.Common.{◌≡◌, ℕ, zero, suc, ◌+◌, ◌<◌, ◌≤◌, Bool, true, false, not, ◌&&◌, ◌||◌, cond, List, [], ◌∷◌, ◌++◌, length, get_or, map, drop, refl, sym, ap, ◌∙◌, subst, arith, drop-cons, add-one, length-append, append-nil, ◌*◌, inl, inr}
-use Rattle.std.specs.Prelude.{Contains, nat_eq, nat_lt, IsSome, IfSome, Some, None, All, option_map}
+use Rattle.std.proofs.Common.{◌≡◌, ℕ, zero, suc, ◌+◌, ◌<◌, ◌≤◌, Bool, true, false, not, ◌&&◌, ◌||◌, cond, List, [], ◌∷◌, ◌++◌, length, get_or, map, drop, refl, sym, ap, ◌∙◌, arith, drop-cons, add-one, length-append, append-nil, ◌*◌, inl, inr}
+use Rattle.std.specs.Prelude.{nat_eq, nat_lt, IsSome, IfSome, Some, None, All, option_map}
 use Rattle.std.specs.List.{list_any, IsDistinct}
 use Rattle.std.specs.Option.{option_map_or}
 use Rattle.std.specs.declared.option.Option.{Option}
@@ -19,7 +19,7 @@ use Rattle.vs_graph.specs.declared.node.Node.{Node}
 use Rattle.vs_graph.specs.Good.{body_at}
 use Rattle.vs_graph.specs.Bodies.{Bodies, AreAlike, name_at, words_at, gap}
 use Rattle.vs_graph.specs.Named.{is_live, AreMembers}
-use Rattle.vs_graph.proofs.Sorts.{In, test_from_in}
+use Rattle.vs_graph.proofs.Sorts.{In}
 use Rattle.vs_link.specs.Selected.{is_shadowed, is_choice, selected_behind, selected}
 
 -- ---- words

@@ -1,13 +1,11 @@
 -- Members that are named by their ids, as the tests make them: a newcomer's name is new.
-use Rattle.std.proofs.Common.{◌≡◌, ◌≢◌, ℕ, ◌+◌, ◌*◌, ◌/◌, ◌%◌, ◌<◌, ◌≤◌, ◌==◌, Bool, true, false, eqb, List, [], ◌∷◌, ◌++◌, length, get_or, zero, suc, refl, sym, ap, ◌∙◌, subst, arith, below_more}
-use Rattle.std.specs.Prelude.{Some, None, IfSome, IsSome, IsSomeAnd, option_map, All, nat_eq}
-use Rattle.std.specs.Option.{option_map_or}
-use Rattle.std.specs.List.{IsDistinct}
+use Rattle.std.proofs.Common.{◌≡◌, ◌≢◌, ℕ, ◌+◌, ◌<◌, ◌≤◌, Bool, true, false, eqb, List, [], ◌∷◌, length, get_or, zero, suc, refl, sym, ap, ◌∙◌, subst, arith, below_more}
+use Rattle.std.specs.Prelude.{Some, None, IfSome, IsSome, option_map}
 use Rattle.std.specs.declared.option.Option.{Option}
-use Rattle.std.proofs.lemmas.Bool.{eqb-true, eqb-false, both_ways}
+use Rattle.std.proofs.lemmas.Bool.{eqb-true, eqb-false}
 use Rattle.vs_rank.specs.declared.Key.{Key}
 use Rattle.vs_graph.specs.declared.node.Node.{Node}
-use Rattle.vs_graph.specs.Good.{body_at, layers_at, links_at, StandsAt, AreLinksGood}
+use Rattle.vs_graph.specs.Good.{body_at, layers_at, StandsAt, AreLinksGood}
 use Rattle.vs_graph.specs.Newcomer.{AreEmptyLists, ChangesAt, IsNewcomer}
 use Rattle.vs_graph.specs.Relinks.{Relinks}
 use Rattle.vs_graph.specs.Table.{Table}

@@ -7,7 +7,6 @@ use Rattle.std.proofs.Math.Seq.{take-suc, take-length}
 use Rattle.std.proofs.lemmas.List.{map-append}
 use Rattle.std.proofs.lemmas.List.Sums.{fold-append}
 use Rattle.std.proofs.lemmas.Bool.{eqb-true, eqb-false, both_ways, lt-ltb, le-ltb}
-use Rattle.vs_defs.specs.Bytes.{Bytes}
 use Rattle.vs_defs.specs.Store.{Member}
 use Rattle.vs_defs.specs.Links.{Links, neighbours, capacity, join, another_stands, by_nearness_to}
 use Rattle.vs_defs.specs.Links as defs

@@ -64,12 +64,7 @@ fn is_live<N: Nodes, L: Ledger>(edit: &Edit, base: &N, id: u32, reads: &mut Step
 }
 
 /// Whether all candidates are members.
-fn are_live<N: Nodes, L: Ledger>(
-    edit: &Edit,
-    base: &N,
-    keys: &[Key],
-    reads: &mut Steps<L>,
-) -> bool
+fn are_live<N: Nodes, L: Ledger>(edit: &Edit, base: &N, keys: &[Key], reads: &mut Steps<L>) -> bool
     ensures { result ≡ true → All (λ key. IsSome (overwritten edit.now (N.at base.now) key.id)) keys.now }
 {
     for key in keys {
@@ -123,7 +118,17 @@ impl Draft {
         if !may_link(&self.edit, &self.base, x, y, &mut reads) {
             return Ok(self);
         }
-        link_layer(alloc, &mut self.edit, &self.base, x, 0, &[y], None, 4, &mut reads)?;
+        link_layer(
+            alloc,
+            &mut self.edit,
+            &self.base,
+            x,
+            0,
+            &[y],
+            None,
+            4,
+            &mut reads,
+        )?;
         Ok(self)
     }
 
@@ -220,7 +225,11 @@ fn an_only_link_stays(rt: HostRuntime) -> Result<(), NoMemory> {
 fn nearer_ones_shadow_a_candidate(rt: HostRuntime) -> Result<(), NoMemory> {
     let alloc = rt.alloc();
     let draft = star(alloc, &[1, 3, 4])?;
-    let keys = [Key { dist: 1, id: 1 }, Key { dist: 1, id: 3 }, Key { dist: 2, id: 2 }];
+    let keys = [
+        Key { dist: 1, id: 1 },
+        Key { dist: 1, id: 3 },
+        Key { dist: 2, id: 2 },
+    ];
     let chosen = draft.choice(alloc, &keys)?;
     let expected: &[u32] = &[1, 3];
     assert!(rt; chosen.as_slice() == expected);
