@@ -233,3 +233,11 @@ all_leave (suc k) =
       items = λ d t. items_body_leaves (value_within k) (items_within k) d t h.values h.items;
       members = λ d t. members_body_leaves (pieces_within k) (value_within k) (members_within k) d t (pieces_leaves k) h.values h.members
     }
+
+pub Leaves-rest_of : {A : Type 0} (n : ℕ) (o : Front A) (r : Bytes) → Leaves n o → option_map (λ p. p.1) o ≡ Some r → length r ≤ n
+Leaves-rest_of n None r s e = absurd (cc)
+Leaves-rest_of n (Some p) r s e = let h : p.1 ≡ r = cc in omega (arith, ap length h)
+
+pub Rest-at : (n : ℕ) (o : Option Bytes) (r : Bytes) → Rest n o → o ≡ Some r → length r ≤ n
+Rest-at n None r s e = absurd (cc)
+Rest-at n (Some q) r s e = let h : q ≡ r = cc in omega (arith, ap length h)

@@ -27,10 +27,10 @@ on_depth_same : {A : Type 0} (d : ℕ) (f g : ℕ → Option A) → ((e : ℕ) �
 on_depth_same zero f g h = refl
 on_depth_same (suc d) f g h = h d
 
-abbrev more_pieces : (Bytes → Front (List Piece)) → Bytes → Front (List Piece)
+abbrev pub more_pieces : (Bytes → Front (List Piece)) → Bytes → Front (List Piece)
 more_pieces P text = option_and_then (λ p. option_map (λ q. (p.0 ∷ q.0, q.1)) (P p.1)) (piece_at text)
 
-abbrev pieces_by : Bool → Bytes → Front (List Piece) → Front (List Piece)
+abbrev pub pieces_by : Bool → Bytes → Front (List Piece) → Front (List Piece)
 pieces_by v cs more = elim v [ true ↦ Some ([], cs) | false ↦ more ]
 
 pieces_same : (P Q : Bytes → Front (List Piece)) (t : Bytes) → SameBelow (length t) P Q → pieces_body P t ≡ pieces_body Q t
