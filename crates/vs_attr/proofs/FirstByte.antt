@@ -1,17 +1,20 @@
 -- What kind of field a value is, by its first byte.
-use Rattle.std.proofs.Common.{◌≡◌, ℕ, zero, suc, ◌+◌, ◌-◌, ◌*◌, ◌<◌, ◌≤◌, ◌==◌, Bool, true, false, cond, ◌&&◌, ◌||◌, List, [], ◌∷◌, ◌++◌, Option, Some, None, IsSome, length, drop, take, refl, ap, sym, ◌∙◌, subst, arith, rules, option_map, option_and_then, unwrap_or, codes, nat_eq}
+use Rattle.std.proofs.Common.{◌≡◌, ℕ, zero, suc, ◌+◌, ◌-◌, ◌*◌, ◌<◌, ◌≤◌, ◌==◌, Bool, true, false, cond, ◌&&◌, ◌||◌, List, [], ◌∷◌, ◌++◌, Option, Some, None, IsSome, length, drop, take, refl, ap, sym, ◌∙◌, subst, arith, rules, option_map, option_and_then, unwrap_or, codes, nat_eq, Result, Ok, Err, MatchResult, is_ok}
+use Rattle.std.specs.Str.{IsUtf8, is_utf8}
+use Rattle.std.proofs.lemmas.Str.{is_utf8-from_IsUtf8, IsUtf8-from_is_utf8}
 use Rattle.std.specs.List.{starts_with}
+use Rattle.std.proofs.lemmas.Bool.{false≢true}
 use Rattle.std.proofs.lemmas.Bool.Decides.{nat_tests}
 use Rattle.vs_defs.specs.Bytes.{Bytes, first_in}
 use Rattle.vs_defs.specs.Numeral.{begins_with, is_empty}
 use Rattle.vs_defs.specs.Decimal.{read_fixed}
 use Rattle.vs_defs.specs.Json as json
-use Rattle.vs_defs.specs.Json.{Json, Items, Members, Front, Piece, bytes_of, mark_at, skip_space, plain_value_at, word_at, or_front, number_at, after_number, whole_value, pieces_within}
+use Rattle.vs_defs.specs.Json.{Json, Items, Members, Front, Piece, bytes_of, mark_at, skip_space, plain_value_at, word_at, or_front, number_at, after_number, whole_value, value_within}
 use Rattle.vs_defs.specs.AttributeField as field
-use Rattle.vs_defs.specs.AttributeField.{Single, NoKind, single_of, singles_of, field_of_value, number_field, text_field, member_value}
+use Rattle.vs_defs.specs.AttributeField.{Single, NoKind, single_of, singles_of, field_of_value, number_field, text_field, member_value, option_field, field_of}
 use Rattle.vs_attr.specs.Reading.{pieces_at, value_at, items_at, members_at, rest_of, value_of, string_at, text_at, array_at, object_at, value_from}
 use Rattle.vs_attr.specs.Listed.{items_from, items_left, AreItems, begun, items_inside, IsArrayInside, item_next}
-use Rattle.vs_attr.specs.Fields.{named_in, member_found, number_single, plain_single, single_from}
+use Rattle.vs_attr.specs.Fields.{named_in, found_whole, member_found, number_single, plain_single, single_from}
 use Rattle.vs_attr.proofs.Bodies.{on_mark}
 use Rattle.vs_attr.proofs.Turns.{value_whole}
 use Rattle.vs_attr.proofs.Values.{value_from_is, items_read, items_none}
@@ -191,12 +194,12 @@ not_array d t j m e =
     (subst (OnRead (λ j. field_of_value j ≡ field.One (single_of j))) (sym (value_from_is d t)) (not_array_from d (skip_space t) m)) e
 
 pub single_field : (d : ℕ) (t : Bytes) (o : Option Json) → value_of (value_at d t) ≡ o → IsSome o → mark_at 91 t ≡ None → Some (field.One (single_from (skip_space t))) ≡ option_map field_of_value o
-single_field d t None e s m = absurd s
+single_field d t None e s m = absurd (false≢true s)
 single_field d t (Some j) e s m = ap (λ f. Some f) (sym (not_array d t j m e ∙ ap field.One (kind_at d t j e)))
 
 some_items : (o : Front Items) → IsSome (value_of (option_map (λ q. (json.Array q.0, q.1)) o)) → IsSome (value_of o)
-some_items None s = absurd s
-some_items (Some q) s = tt
+some_items None s = absurd (false≢true s)
+some_items (Some q) s = refl
 
 inside_by : (inside : Bytes) (o : Option Bytes) → IsSome (value_of (elim o [ Some rest ↦ Some (json.Array json.no_items, rest) | None ↦ option_map (λ q. (json.Array q.0, q.1)) (items_at 62 inside) ])) → AreItems (begun inside o)
 inside_by inside None s = some_items (items_at 62 inside) s
@@ -206,7 +209,7 @@ pub array_inside : (t inside : Bytes) → mark_at 91 t ≡ Some inside → IsSom
 array_inside t inside m s = inside_by inside (mark_at 93 inside) (subst (λ o. IsSome (value_of o)) (value_array 63 t inside m) s)
 
 listed_items : (o : Front Items) → IsSome (value_of (option_map (λ q. (json.Array q.0, q.1)) o)) → Some (field.Listed (unwrap_or (option_map singles_of (value_of o)) [])) ≡ option_map field_of_value (value_of (option_map (λ q. (json.Array q.0, q.1)) o))
-listed_items None s = absurd s
+listed_items None s = absurd (false≢true s)
 listed_items (Some q) s = refl
 
 listed_by : (inside : Bytes) (o : Option Bytes) → IsSome (value_of (elim o [ Some rest ↦ Some (json.Array json.no_items, rest) | None ↦ option_map (λ q. (json.Array q.0, q.1)) (items_at 62 inside) ])) → Some (field.Listed (items_left (begun inside o))) ≡ option_map field_of_value (value_of (elim o [ Some rest ↦ Some (json.Array json.no_items, rest) | None ↦ option_map (λ q. (json.Array q.0, q.1)) (items_at 62 inside) ]))
@@ -228,11 +231,11 @@ singles_in o = unwrap_or (option_map singles_of (value_of o)) []
 
 -- where items were read, of which j is the first, the next begin behind the comma
 after_first : (j : Json) (o : Front Items) → IsSome (value_of (option_map (λ q. (json.item j q.0, q.1)) o)) → (first_in (singles_in (option_map (λ q. (json.item j q.0, q.1)) o)) ≡ Some (single_of j)) × (drop 1 (singles_in (option_map (λ q. (json.item j q.0, q.1)) o)) ≡ singles_in o) × IsSome (value_of o)
-after_first j None s = absurd s
-after_first j (Some q) s = (refl, refl, tt)
+after_first j None s = absurd (false≢true s)
+after_first j (Some q) s = (refl, refl, refl)
 
 after_last : (j : Json) (o : Option Bytes) → IsSome (value_of (option_map (λ after. (json.item j json.no_items, after)) o)) → (first_in (singles_in (option_map (λ after. (json.item j json.no_items, after)) o)) ≡ Some (single_of j)) × (drop 1 (singles_in (option_map (λ after. (json.item j json.no_items, after)) o)) ≡ [])
-after_last j None s = absurd s
+after_last j None s = absurd (false≢true s)
 after_last j (Some r) s = (refl, refl)
 
 record Turn (j : Json) (all : Front Items) (next : Option Bytes) : Type 0 where
@@ -245,7 +248,7 @@ turn_behind j None rest s = let h = after_last j (mark_at 93 rest) s in record {
 turn_behind j (Some more) rest s = let h = after_first j (items_at 62 more) s in record { first = h.0; rest = h.1; valid = h.2 }
 
 turn_by : (t : Bytes) (o : Front Json) → value_at 62 t ≡ o → IsSome (items_from t) → (j : Json) × (value_of o ≡ Some j) × Turn j (items_at 62 t) (option_and_then (mark_at 44) (rest_of o))
-turn_by t None v s = absurd (subst (λ o. IsSome (value_of o)) (items_none 62 t v) s)
+turn_by t None v s = absurd (false≢true (subst (λ o. IsSome (value_of o)) (items_none 62 t v) s))
 turn_by t (Some p) v s =
     let e : items_at 62 t ≡ items_after p.0 (mark_at 44 p.1) p.1 = items_read 62 t p v in
     (p.0, refl, subst (λ o. Turn p.0 o (mark_at 44 p.1)) (sym e) (turn_behind p.0 (mark_at 44 p.1) p.1 (subst (λ o. IsSome (value_of o)) e s)))
@@ -287,10 +290,6 @@ found_none name t m =
 abbrev object_by : Bytes → Option Bytes → Front Json
 object_by inside o = elim o [ Some rest ↦ Some (json.Object json.no_members, rest) | None ↦ option_map (λ q. (json.Object q.0, q.1)) (members_at 63 inside) ]
 
--- the value that was found, where nothing but white space follows
-abbrev pub found_whole : Option (Option Json × Bytes) → Option Json
-found_whole r = option_and_then (λ p. cond (is_empty (skip_space p.1)) p.0 None) r
-
 whole_members : (name : Bytes) (o : Front Members) → found_whole (named_in name None o) ≡ option_and_then (member_value name) (whole_value (option_map (λ q. (json.Object q.0, q.1)) o))
 whole_members name None = refl
 whole_members name (Some q) = elim (is_empty (skip_space q.1)) as (λ v. cond v (field.last_named name None q.0) None ≡ option_and_then (member_value name) (cond v (Some (json.Object q.0)) None)) [ true ↦ refl | false ↦ refl ]
@@ -304,3 +303,22 @@ pub found_empty : (name t inside rest : Bytes) → mark_at 123 t ≡ Some inside
 found_empty name t inside rest m e =
     sym (ap (λ o. option_and_then (member_value name) (whole_value o)) (value_object 64 t inside m ∙ ap (object_by inside) e)
     ∙ whole_none name (Some (json.Object json.no_members, rest)) refl)
+
+-- ---- texts in UTF-8
+
+not_utf8 : (text : Bytes) (v : Bool) → is_utf8 text ≡ v → ¬ (IsUtf8 text) → false ≡ v
+not_utf8 text true e n = absurd (n (IsUtf8-from_is_utf8 text e))
+not_utf8 text false e n = refl
+
+pub utf8_ok : {T E : Type 0} (P : T → Type 0) (Q : E → Type 0) (r : Result T E) (text : Bytes) → MatchResult r (λ s. P s × IsUtf8 text) (λ e. ¬ (IsUtf8 text) × Q e) → is_ok r ≡ is_utf8 text
+utf8_ok P Q (Ok s) text h = sym (is_utf8-from_IsUtf8 text h.1)
+utf8_ok P Q (Err e) text h = not_utf8 text (is_utf8 text) refl h.0
+
+pub field_whole : (text name : Bytes) → is_utf8 text ≡ true → option_field (member_found name text) ≡ field_of text name
+field_whole text name u =
+    sym (ap (λ v. option_field (option_and_then (λ j. member_value name j) (elim v [ true ↦ whole_value (value_within (2 * length text + 2) 64 text) | false ↦ None ]))) u
+    ∙ ap (λ o. option_field (option_and_then (λ j. member_value name j) (whole_value o))) (value_whole 64 text))
+
+pub field_not_utf8 : (text name : Bytes) → is_utf8 text ≡ false → None ≡ field_of text name
+field_not_utf8 text name u =
+    sym (ap (λ v. option_field (option_and_then (λ j. member_value name j) (elim v [ true ↦ whole_value (value_within (2 * length text + 2) 64 text) | false ↦ None ]))) u)

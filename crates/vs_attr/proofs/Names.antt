@@ -72,3 +72,7 @@ pub compared_all : (name text : List ℕ) (i : ℕ) → length name ≤ i → (r
 compared_all name text i h r e b d =
     let none : drop i name ≡ [] = drop_all i name h in
     d ∙ ap (λ o. not (is_some o)) e ∙ at_end text ∙ sym (ap (λ n. same_name n text) none)
+
+pub is_none_is : (b : Bool) (r : Option ℕ) → is_some r ≡ not b → b ≡ not (is_some r)
+is_none_is true r e = ap not (sym e)
+is_none_is false r e = ap not (sym e)

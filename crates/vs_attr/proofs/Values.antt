@@ -1,13 +1,11 @@
 -- Values, items and members, one at a time.
-use Rattle.std.proofs.Common.{◌≡◌, ℕ, zero, suc, ◌+◌, ◌-◌, ◌*◌, ◌<◌, ◌≤◌, ◌==◌, Bool, true, false, cond, ◌&&◌, ◌||◌, List, [], ◌∷◌, ◌++◌, Option, Some, None, length, drop, refl, ap, sym, ◌∙◌, arith, rules, option_map, option_and_then, codes, nat_eq}
-use Rattle.std.specs.List.{starts_with}
-use Rattle.std.proofs.lemmas.Bool.Decides.{nat_tests}
+use Rattle.std.proofs.Common.{◌≡◌, ℕ, zero, suc, ◌+◌, ◌-◌, ◌*◌, ◌<◌, ◌≤◌, ◌==◌, Bool, true, false, cond, ◌&&◌, ◌||◌, List, [], ◌∷◌, ◌++◌, Option, Some, None, length, drop, refl, ap, sym, ◌∙◌, arith, rules, option_map, option_and_then, IsSome}
 use Rattle.vs_defs.specs.Bytes.{Bytes}
 use Rattle.vs_defs.specs.Numeral.{begins_with}
-use Rattle.vs_defs.specs.Json.{Json, Text, Array, Object, Items, no_items, item, Members, no_members, member, Front, then_read, Piece, bytes_of, mark_at, skip_space, plain_value_at, word_at, or_front, number_at, after_number, Null, Truth, Number}
+use Rattle.vs_defs.specs.Json.{Json, Text, Array, Object, Items, no_items, item, Members, no_members, member, Front, then_read, Piece, bytes_of, mark_at, skip_space, plain_value_at}
 use Rattle.vs_defs.specs.AttributeField.{is_named, last_named}
 use Rattle.vs_attr.specs.Reading.{pieces_at, value_at, items_at, members_at, rest_of, value_of, string_at, after_name, member_at, text_at, array_at, object_at, value_from}
-use Rattle.vs_attr.specs.Fields.{named_in}
+use Rattle.vs_attr.specs.Fields.{named_in, found_value, IsReadable}
 use Rattle.vs_attr.proofs.Bodies.{on_mark, on_depth}
 use Rattle.vs_attr.proofs.Lengths.{Leaves-rest_of}
 use Rattle.vs_attr.proofs.Turns.{value_leaves, value_is, items_is, members_is}
@@ -88,9 +86,8 @@ with_begun begun o = option_map (λ c. (begun, c)) o
 colon_cases : (o : Option Bytes) (begun b colon : Bytes) → with_begun begun o ≡ Some (b, colon) → (o ≡ Some colon) × (begun ≡ b)
 colon_cases None begun b colon e = absurd (cc)
 colon_cases (Some c) begun b colon e =
-    let h : c ≡ colon = cc in
-    let g : begun ≡ b = cc in
-    (ap Some h, g)
+    let g : Some begun ≡ Some b = ap (λ o. option_map (λ p. p.0) o) e in
+    (ap (λ o. option_map (λ p. p.1) o) e, cc)
 
 name_cases : (o : Front (List Piece)) (begun b colon : Bytes) (L : Option Bytes → Bytes → Front Members) → pieces_at begun ≡ o → after_name begun (rest_of o) ≡ Some (b, colon) → then_read o (λ name rest. option_and_then (λ c. L (bytes_of name) c) (mark_at 58 rest)) ≡ L (string_at b) colon
 unfolding string_at
@@ -173,3 +170,35 @@ named_last name found d t b colon r e v m =
 
 pub value_rest : (d : ℕ) (t r : Bytes) → rest_of (value_at d t) ≡ Some r → length r ≤ length t
 value_rest d t r e = Leaves-rest_of (length t) (value_at d t) r (value_leaves d t) e
+
+-- ---- a member's beginning
+
+pub member_no_name : (t : Bytes) → mark_at 34 t ≡ None → member_at t ≡ None
+unfolding member_at
+member_no_name t a = ap (option_and_then (λ begun. after_name begun (rest_of (pieces_at begun)))) a
+
+pub member_no_end : (t name : Bytes) → mark_at 34 t ≡ Some name → rest_of (pieces_at name) ≡ None → member_at t ≡ None
+unfolding member_at
+member_no_end t name a b = ap (option_and_then (λ begun. after_name begun (rest_of (pieces_at begun)))) a ∙ ap (after_name name) b
+
+pub member_no_colon : (t name rest : Bytes) → mark_at 34 t ≡ Some name → rest_of (pieces_at name) ≡ Some rest → mark_at 58 rest ≡ None → member_at t ≡ None
+unfolding member_at
+member_no_colon t name rest a b c = ap (option_and_then (λ begun. after_name begun (rest_of (pieces_at begun)))) a ∙ ap (after_name name) b ∙ ap (with_begun name) c
+
+pub member_whole : (t name rest colon : Bytes) → mark_at 34 t ≡ Some name → rest_of (pieces_at name) ≡ Some rest → mark_at 58 rest ≡ Some colon → member_at t ≡ Some (name, colon)
+unfolding member_at
+member_whole t name rest colon a b c = ap (option_and_then (λ begun. after_name begun (rest_of (pieces_at begun)))) a ∙ ap (after_name name) b ∙ ap (with_begun name) c
+
+-- ---- the member that was found last
+
+pub some_value : {A : Type 0} (o : Front A) (r : Bytes) → rest_of o ≡ Some r → IsSome (value_of o)
+some_value None r e = absurd (cc)
+some_value (Some p) r e = refl
+
+pub latest_value : (v : Bytes) (o : Option Bytes) (b : Bool) → found_value (cond b (Some v) o) ≡ cond b (value_of (value_at 63 v)) (found_value o)
+latest_value v o true = refl
+latest_value v o false = refl
+
+pub latest_readable : (v : Bytes) (o : Option Bytes) (b : Bool) → IsSome (value_of (value_at 63 v)) → IsReadable o → IsReadable (cond b (Some v) o)
+latest_readable v o true h g = h
+latest_readable v o false h g = g

@@ -2,7 +2,8 @@
 use Rattle.std.specs.Prelude.{ℕ, ◌-◌, ◌==◌, Bool, true, false, cond, List, [], ◌∷◌, length, take, IsSome, Option, Some, None, option_map, option_and_then, option_copied}
 use Rattle.std.specs.Borrow.{Bor}
 use Rattle.vs_defs.specs.Bytes.{Bytes}
-use Rattle.vs_defs.specs.Json.{Json, Members, Front, whole_value, after_number}
+use Rattle.vs_defs.specs.Json.{Json, Members, Front, skip_space, whole_value, after_number}
+use Rattle.vs_defs.specs.Numeral.{is_empty}
 use Rattle.vs_defs.specs.Decimal.{read_fixed}
 use Rattle.vs_defs.specs.AttributeField as attribute
 use Rattle.vs_attr.specs.declared.kind.Field.{Field}
@@ -45,6 +46,10 @@ named_in name found r = option_map (λ q. (attribute.last_named name found q.0, 
 
 abbrev pub found_seen : Option (Option (Bor Bytes) × Bor Bytes) → Option (Option Json × Bytes)
 found_seen r = option_map (λ p. (found_value (option_copied p.0), p.1.now)) r
+
+-- the value that was found, where nothing but white space follows
+abbrev pub found_whole : Option (Option Json × Bytes) → Option Json
+found_whole r = option_and_then (λ p. cond (is_empty (skip_space p.1)) p.0 None) r
 
 -- the value of the last member of this name in the object that a whole text is
 abbrev pub member_found : Bytes → Bytes → Option Json

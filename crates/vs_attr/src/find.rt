@@ -8,11 +8,11 @@ use crate::text::is_named;
 use crate::value::{member_at, value_end};
 use std::str;
 
-ghost use Rattle.std.specs.Prelude.{◌≡◌, Some, None, IsSome, IfSome, option_map, option_copied};
+ghost use Rattle.std.specs.Prelude.{◌≡◌, cond, Some, None, IsSome, IfSome, option_map, option_copied};
 ghost use Rattle.std.specs.Str.{is_utf8 as is_utf8_text};
 ghost use Rattle.vs_defs.specs.AttributeField.{field_of_value, field_of};
 ghost use Rattle.vs_attr.specs.Reading.{value_at, members_at, value_of};
-ghost use Rattle.vs_attr.specs.Fields.{field_seen, found_value, found_seen, named_in, member_found, IsReadable};
+ghost use Rattle.vs_attr.specs.Fields.{field_seen, found_value, found_seen, named_in, member_found, found_whole, IsReadable};
 
 /// How many objects and arrays may be open in a member's value: 64 at most in
 /// the whole text.
@@ -29,6 +29,13 @@ fn member_value<'a>(text: &'a [u8]) -> Field<'a>
     }
 }
 
+/// Where the value that was found last begins, once this member's is seen.
+fn latest<'a>(is_named: bool, value: &'a [u8], found: Option<&'a [u8]>) -> Option<&'a [u8]>
+    ensures { option_copied result ≡ cond is_named (Some value.now) (option_copied found.entry) }
+{
+    if is_named { Some(value) } else { found }
+}
+
 /// Where the value of the last member of this name begins, if there is one,
 /// and the text behind the object, which has one member at least.
 fn last_member<'a>(text: &'a [u8], name: &[u8]) -> Option<(Option<&'a [u8]>, &'a [u8])>
@@ -39,15 +46,29 @@ fn last_member<'a>(text: &'a [u8], name: &[u8]) -> Option<(Option<&'a [u8]>, &'a
     let mut found = None;
     loop {
         let (raw, value) = member_at(text)?;
-        if is_named(name, raw) {
-            found = Some(value);
-        }
         let rest = value_end(MEMBER_DEPTH, value)?;
+        found = latest(is_named(name, raw), value, found);
         match mark_at(b',', rest) {
             Some(more) => text = more,
-            None => return Some((found, mark_at(b'}', rest)?)),
+            None => {
+                let after = mark_at(b'}', rest)?;
+                return Some((found, after));
+            }
         }
     }
+}
+
+/// Where the value of the last member of this name begins in an object with
+/// one member at least, behind which nothing but white space stands.
+fn whole_member<'a>(inside: &'a [u8], name: &[u8]) -> Option<&'a [u8]>
+    ensures value { found_value (option_copied result) ≡ found_whole (named_in name.now None (members_at 63 inside.now)) }
+    ensures readable { IsReadable (option_copied result) }
+{
+    let (found, rest) = last_member(inside, name)?;
+    if !skip_space(rest).is_empty() {
+        return None;
+    }
+    found
 }
 
 /// Where the value of the last member of this name begins in the object that
@@ -57,14 +78,10 @@ fn member_in<'a>(text: &'a [u8], name: &[u8]) -> Option<&'a [u8]>
     ensures readable { IsReadable (option_copied result) }
 {
     let inside = mark_at(b'{', text)?;
-    if mark_at(b'}', inside).is_some() {
-        return None;
+    match mark_at(b'}', inside) {
+        Some(_) => None,
+        None => whole_member(inside, name),
     }
-    let (found, rest) = last_member(inside, name)?;
-    if !skip_space(rest).is_empty() {
-        return None;
-    }
-    found
 }
 
 fn is_utf8(text: &[u8]) -> bool

@@ -1,6 +1,6 @@
 use Rattle.std.proofs.Common.{sym, ap, ◌∙◌, arith}
 use Rattle.vs_defs.specs.AttributeField.{is_named}
-use Rattle.vs_attr.proofs.Names.{compared_same, compared_other, compared_all}
+use Rattle.vs_attr.proofs.Names.{compared_same, compared_other, compared_all, is_none_is}
 use Rattle.vs_attr.proofs.text.is_named.Goals as goal
 
 pub loop-byte-init : goal.loop-byte-init
@@ -16,4 +16,4 @@ loop-byte-preserved c =
 
 pub returns : goal.returns
 returns c =
-    compared_all c.args.name.now c.loop-byte.text c.loop-byte.byte-index (omega arith) c.next_byte-2.result c.next_byte-2.ensures.value c.is_none.result ? ∙ c.loop-byte.invariant
+    compared_all c.args.name.now c.loop-byte.text c.loop-byte.byte-index (omega arith) c.next_byte-2.result c.next_byte-2.ensures.value c.is_none.result (is_none_is c.is_none.result c.next_byte-2.result c.is_none.ensures) ∙ c.loop-byte.invariant
