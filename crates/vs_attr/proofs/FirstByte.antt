@@ -322,3 +322,7 @@ field_whole text name u =
 pub field_not_utf8 : (text name : Bytes) → is_utf8 text ≡ false → None ≡ field_of text name
 field_not_utf8 text name u =
     sym (ap (λ v. option_field (option_and_then (λ j. member_value name j) (elim v [ true ↦ whole_value (value_within (2 * length text + 2) 64 text) | false ↦ None ]))) u)
+
+pub option_field_is : (o : Option Json) → option_map field_of_value o ≡ option_field o
+option_field_is None = refl
+option_field_is (Some j) = refl
