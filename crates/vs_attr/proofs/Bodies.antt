@@ -1,5 +1,5 @@
 -- One turn of the definition's reader, over readers of what stands within.
-use Rattle.std.proofs.Common.{◌≡◌, ℕ, zero, suc, Bool, true, false, List, [], ◌∷◌, Option, Some, None, drop, refl, option_map, option_and_then}
+use Rattle.std.proofs.Common.{◌≡◌, ℕ, zero, suc, true, false, List, [], ◌∷◌, Option, Some, None, drop, refl, option_map, option_and_then}
 use Rattle.vs_defs.specs.Bytes.{Bytes}
 use Rattle.vs_defs.specs.Numeral.{begins_with}
 use Rattle.vs_defs.specs.Json.{Json, Text, Array, Object, Items, no_items, item, Members, no_members, member, Front, then_read, Piece, mark_at, skip_space, piece_at, plain_value_at, bytes_of, pieces_within, value_within, items_within, members_within}

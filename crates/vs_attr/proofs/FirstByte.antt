@@ -1,5 +1,5 @@
 -- What kind of field a value is, by its first byte.
-use Rattle.std.proofs.Common.{◌≡◌, ℕ, zero, suc, ◌+◌, ◌-◌, ◌*◌, ◌<◌, ◌≤◌, ◌==◌, Bool, true, false, cond, ◌&&◌, ◌||◌, List, [], ◌∷◌, ◌++◌, Option, Some, None, IsSome, length, drop, take, refl, ap, sym, ◌∙◌, subst, arith, rules, option_map, option_and_then, unwrap_or, codes, nat_eq, Result, Ok, Err, MatchResult, is_ok}
+use Rattle.std.proofs.Common.{◌≡◌, ℕ, zero, suc, ◌+◌, ◌-◌, ◌*◌, ◌==◌, Bool, true, false, cond, List, [], ◌∷◌, Option, Some, None, IsSome, length, drop, take, refl, ap, sym, ◌∙◌, subst, arith, option_map, option_and_then, unwrap_or, codes, nat_eq, Result, Ok, Err, MatchResult, is_ok}
 use Rattle.std.specs.Str.{IsUtf8, is_utf8}
 use Rattle.std.proofs.lemmas.Str.{is_utf8-from_IsUtf8, IsUtf8-from_is_utf8}
 use Rattle.std.specs.List.{starts_with}

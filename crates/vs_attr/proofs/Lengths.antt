@@ -1,11 +1,11 @@
 -- What is read leaves no more than was there.
-use Rattle.std.proofs.Common.{◌≡◌, ℕ, zero, suc, ◌+◌, ◌-◌, ◌*◌, ◌<◌, ◌≤◌, ◌==◌, Bool, true, false, cond, ◌&&◌, ◌||◌, List, [], ◌∷◌, Option, Some, None, length, drop, refl, ap, sym, ◌∙◌, arith, rules, option_map, option_and_then, length-drop, codes, nat_lt}
+use Rattle.std.proofs.Common.{◌≡◌, ℕ, zero, suc, ◌<◌, ◌≤◌, ◌==◌, true, false, cond, ◌||◌, List, [], ◌∷◌, Option, Some, None, length, drop, ap, arith, option_map, option_and_then, length-drop, codes, nat_lt}
 use Rattle.std.specs.List.{starts_with}
 use Rattle.std.specs.Bool.{nat_eq}
 use Rattle.vs_defs.specs.Bytes.{Bytes}
 use Rattle.vs_defs.specs.Numeral.{begins_with, without, unsigned, digits_of, after_digits, is_empty}
-use Rattle.vs_defs.specs.Json.{Json, Null, Truth, Number, Text, Array, Object, Items, no_items, item, Members, no_members, member, Front, then_read, Piece, plain, unit, mark_at, skip_space, is_space, piece_at, escape_at, unit_at, code_unit, short_escape, plain_value_at, word_at, or_front, number_at, after_number, after_fraction, after_exponent, is_whole_part, bytes_of, pieces_within, value_within, items_within, members_within}
-use Rattle.vs_attr.proofs.Bodies.{on_mark, on_depth, pieces_body, value_body, items_body, members_body}
+use Rattle.vs_defs.specs.Json.{Json, Null, Truth, Text, Array, Object, Items, no_items, item, Members, no_members, member, Front, Piece, plain, unit, mark_at, skip_space, is_space, piece_at, escape_at, unit_at, code_unit, short_escape, plain_value_at, word_at, or_front, after_number, after_fraction, after_exponent, is_whole_part, bytes_of, pieces_within, value_within, items_within, members_within}
+use Rattle.vs_attr.proofs.Bodies.{on_mark, on_depth, value_body, items_body, members_body}
 
 -- what is left, where something was read, has at most n bytes
 abbrev pub Leaves : {A : Type 0} → ℕ → Front A → Type 0
@@ -134,7 +134,7 @@ number_rest t =
     let g : length (without 45 t) ≤ length t = without_le 45 t in
     elim (is_whole_part (digits_of (without 45 t))) as (λ v. Rest (length t) (cond v (option_and_then after_exponent (after_fraction (after_digits (without 45 t)))) None)) [
       | true ↦ Rest-bind (length (after_digits (without 45 t))) (length t) (after_fraction (after_digits (without 45 t))) after_exponent (fraction_rest (after_digits (without 45 t)))
-        (λ r l. Rest-more (length r) (length t) (after_exponent r) (omega arith) (exponent_rest r))
+          (λ r l. Rest-more (length r) (length t) (after_exponent r) (omega arith) (exponent_rest r))
       | false ↦ tt
     ]
 
@@ -184,7 +184,7 @@ pieces_leaves (suc k) (c ∷ cs) =
     elim (c == 34) as (λ v. Leaves (length (c ∷ cs)) (elim v [ true ↦ Some ([], cs) | false ↦ option_and_then (λ p. option_map (λ q. (p.0 ∷ q.0, q.1)) (pieces_within k p.1)) (piece_at (c ∷ cs)) ])) [
       | true ↦ omega arith
       | false ↦ Leaves-bind (length cs) (length (c ∷ cs)) (piece_at (c ∷ cs)) (λ p. option_map (λ q. (p.0 ∷ q.0, q.1)) (pieces_within k p.1)) (piece_leaves c cs)
-        (λ p l. Leaves-map (length (c ∷ cs)) (pieces_within k p.1) (λ ps. p.0 ∷ ps) (Leaves-more (length p.1) (length (c ∷ cs)) (pieces_within k p.1) (omega arith) (pieces_leaves k p.1)))
+          (λ p l. Leaves-map (length (c ∷ cs)) (pieces_within k p.1) (λ ps. p.0 ∷ ps) (Leaves-more (length p.1) (length (c ∷ cs)) (pieces_within k p.1) (omega arith) (pieces_leaves k p.1)))
     ]
 
 abbrev LeavesAll : {A : Type 0} → (Bytes → Front A) → Type 0
@@ -196,18 +196,18 @@ value_body_leaves P I M d t p i m =
     (λ r l. Leaves-map (length t) (P r) (λ ps. Text (bytes_of ps)) (Leaves-more (length r) (length t) (P r) (omega arith) (p r)))
     (Leaves-on_mark (length t) (length t) (mark_at 91 t) _ _ (mark_short 91 t)
     (λ r l. Leaves-on_depth (length t) d _ (λ e. Leaves-on_mark (length r) (length t) (mark_at 93 r) _ _ (mark_short 93 r) (λ a g. omega arith)
-        (Leaves-map (length t) (I e r) Array (Leaves-more (length r) (length t) (I e r) (omega arith) (i e r)))))
+    (Leaves-map (length t) (I e r) Array (Leaves-more (length r) (length t) (I e r) (omega arith) (i e r)))))
     (Leaves-on_mark (length t) (length t) (mark_at 123 t) _ _ (mark_short 123 t)
     (λ r l. Leaves-on_depth (length t) d _ (λ e. Leaves-on_mark (length r) (length t) (mark_at 125 r) _ _ (mark_short 125 r) (λ a g. omega arith)
-        (Leaves-map (length t) (M e r) Object (Leaves-more (length r) (length t) (M e r) (omega arith) (m e r)))))
+    (Leaves-map (length t) (M e r) Object (Leaves-more (length r) (length t) (M e r) (omega arith) (m e r)))))
     (Leaves-more (length (skip_space t)) (length t) (plain_value_at (skip_space t)) (skip_le t) (plain_leaves (skip_space t)))))
 
 items_body_leaves : (V : ℕ → Bytes → Front Json) (I : ℕ → Bytes → Front Items) (d : ℕ) (t : Bytes) → ((e : ℕ) → LeavesAll (V e)) → ((e : ℕ) → LeavesAll (I e)) → Leaves (length t) (items_body V I d t)
 items_body_leaves V I d t v i =
     Leaves-bind (length t) (length t) (V d t) _ (v d t)
     (λ p l. Leaves-on_mark (length p.1) (length t) (mark_at 44 p.1) _ _ (mark_short 44 p.1)
-        (λ r g. Leaves-map (length t) (I d r) (item p.0) (Leaves-more (length r) (length t) (I d r) (omega arith) (i d r)))
-        (Leaves-mark (length p.1) (length t) (mark_at 93 p.1) (item p.0 no_items) l (mark_short 93 p.1)))
+    (λ r g. Leaves-map (length t) (I d r) (item p.0) (Leaves-more (length r) (length t) (I d r) (omega arith) (i d r)))
+    (Leaves-mark (length p.1) (length t) (mark_at 93 p.1) (item p.0 no_items) l (mark_short 93 p.1)))
 
 members_body_leaves : (P : Bytes → Front (List Piece)) (V : ℕ → Bytes → Front Json) (M : ℕ → Bytes → Front Members) (d : ℕ) (t : Bytes) → LeavesAll P → ((e : ℕ) → LeavesAll (V e)) → ((e : ℕ) → LeavesAll (M e)) → Leaves (length t) (members_body P V M d t)
 members_body_leaves P V M d t p v m =
@@ -216,8 +216,8 @@ members_body_leaves P V M d t p v m =
     (λ n g. Leaves-bind_mark (length n.1) (length t) (mark_at 58 n.1) _ (mark_short 58 n.1)
     (λ colon h. Leaves-bind (length colon) (length t) (V d colon) _ (v d colon)
     (λ j f. Leaves-on_mark (length j.1) (length t) (mark_at 44 j.1) _ _ (mark_short 44 j.1)
-        (λ r e. Leaves-map (length t) (M d r) (member (bytes_of n.0) j.0) (Leaves-more (length r) (length t) (M d r) (omega arith) (m d r)))
-        (Leaves-mark (length j.1) (length t) (mark_at 125 j.1) (member (bytes_of n.0) j.0 no_members) (omega arith) (mark_short 125 j.1))))))
+    (λ r e. Leaves-map (length t) (M d r) (member (bytes_of n.0) j.0) (Leaves-more (length r) (length t) (M d r) (omega arith) (m d r)))
+    (Leaves-mark (length j.1) (length t) (mark_at 125 j.1) (member (bytes_of n.0) j.0 no_members) (omega arith) (mark_short 125 j.1))))))
 
 pub record AllLeave (k : ℕ) : Type 0 where
   pub values : (d : ℕ) → LeavesAll (value_within k d)
@@ -231,7 +231,7 @@ all_leave (suc k) =
     record {
       values = λ d t. value_body_leaves (pieces_within k) (items_within k) (members_within k) d t (pieces_leaves k) h.items h.members;
       items = λ d t. items_body_leaves (value_within k) (items_within k) d t h.values h.items;
-      members = λ d t. members_body_leaves (pieces_within k) (value_within k) (members_within k) d t (pieces_leaves k) h.values h.members
+      members = λ d t. members_body_leaves (pieces_within k) (value_within k) (members_within k) d t (pieces_leaves k) h.values h.members;
     }
 
 pub Leaves-rest_of : {A : Type 0} (n : ℕ) (o : Front A) (r : Bytes) → Leaves n o → option_map (λ p. p.1) o ≡ Some r → length r ≤ n

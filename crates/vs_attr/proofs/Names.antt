@@ -1,5 +1,5 @@
 -- Comparing a name with a text byte by byte, and the bytes of a character.
-use Rattle.std.proofs.Common.{◌≡◌, ℕ, zero, suc, ◌+◌, ◌-◌, ◌*◌, ◌/◌, ◌%◌, ◌<◌, ◌≤◌, ◌==◌, Bool, true, false, cond, not, ◌&&◌, List, [], ◌∷◌, Option, Some, None, is_some, length, drop, get_or, refl, ap, sym, ◌∙◌, arith, rules, nat_eq, nat_lt, drop-cons, add-one}
+use Rattle.std.proofs.Common.{◌≡◌, ℕ, ◌+◌, ◌/◌, ◌%◌, ◌<◌, ◌≤◌, Bool, true, false, not, List, [], ◌∷◌, Option, Some, is_some, length, drop, get_or, refl, ap, sym, ◌∙◌, arith, nat_eq, nat_lt, drop-cons, add-one}
 use Rattle.std.specs.Char.{encode_utf8}
 use Rattle.std.specs.Option.{option_eq}
 use Rattle.std.proofs.lemmas.List.{drop_all}

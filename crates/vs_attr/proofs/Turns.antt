@@ -1,11 +1,11 @@
 -- The definition's number of turns is never met: what is read with enough turns is read with any number that is enough. So each reader
 -- without turns (`vs_attr.specs.Reading`) is one turn over the others.
-use Rattle.std.proofs.Common.{◌≡◌, ℕ, zero, suc, ◌+◌, ◌-◌, ◌*◌, ◌<◌, ◌≤◌, ◌==◌, Bool, true, false, cond, List, [], ◌∷◌, Option, Some, None, length, drop, refl, ap, sym, ◌∙◌, arith, rules, option_map, option_and_then, add-one}
+use Rattle.std.proofs.Common.{◌≡◌, ℕ, zero, suc, ◌+◌, ◌*◌, ◌<◌, ◌≤◌, ◌==◌, Bool, true, false, List, [], ◌∷◌, Option, Some, None, length, refl, ap, ◌∙◌, arith, option_map, option_and_then}
 use Rattle.vs_defs.specs.Bytes.{Bytes}
-use Rattle.vs_defs.specs.Json.{Json, Text, Array, Object, Items, no_items, item, Members, no_members, member, Front, then_read, Piece, mark_at, skip_space, piece_at, plain_value_at, bytes_of, pieces_within, value_within, items_within, members_within}
+use Rattle.vs_defs.specs.Json.{Json, Text, Array, Object, Items, no_items, item, Members, no_members, member, Front, then_read, Piece, mark_at, piece_at, bytes_of, pieces_within, value_within, items_within, members_within}
 use Rattle.vs_attr.specs.Reading.{pieces_at, value_at, items_at, members_at}
 use Rattle.vs_attr.proofs.Bodies.{on_mark, on_depth, pieces_body, value_body, items_body, members_body}
-use Rattle.vs_attr.proofs.Lengths.{Leaves, Short, mark_short, piece_leaves, pieces_leaves, AllLeave, all_leave}
+use Rattle.vs_attr.proofs.Lengths.{Leaves, Short, mark_short, piece_leaves, pieces_leaves, all_leave}
 
 -- two readers agree on texts of fewer than n bytes
 abbrev SameBelow : {A : Type 0} → ℕ → (Bytes → A) → (Bytes → A) → Type 0
@@ -45,9 +45,9 @@ value_same : (P Q : Bytes → Front (List Piece)) (I J : ℕ → Bytes → Front
 value_same P Q I J M N d t p i m =
     on_mark_same (length t) (mark_at 34 t) _ _ _ _ (mark_short 34 t) (λ r l. ap (option_map (λ q. (Text (bytes_of q.0), q.1))) (p r l))
     (on_mark_same (length t) (mark_at 91 t) _ _ _ _ (mark_short 91 t)
-        (λ r l. on_depth_same d _ _ (λ e. ap (on_mark (mark_at 93 r) (λ after. Some (Array no_items, after))) (ap (option_map (λ q. (Array q.0, q.1))) (i e r l))))
+    (λ r l. on_depth_same d _ _ (λ e. ap (on_mark (mark_at 93 r) (λ after. Some (Array no_items, after))) (ap (option_map (λ q. (Array q.0, q.1))) (i e r l))))
     (on_mark_same (length t) (mark_at 123 t) _ _ _ _ (mark_short 123 t)
-        (λ r l. on_depth_same d _ _ (λ e. ap (on_mark (mark_at 125 r) (λ after. Some (Object no_members, after))) (ap (option_map (λ q. (Object q.0, q.1))) (m e r l)))) refl))
+    (λ r l. on_depth_same d _ _ (λ e. ap (on_mark (mark_at 125 r) (λ after. Some (Object no_members, after))) (ap (option_map (λ q. (Object q.0, q.1))) (m e r l)))) refl))
 
 items_same : (V W : ℕ → Bytes → Front Json) (I J : ℕ → Bytes → Front Items) (d : ℕ) (t : Bytes) → V d t ≡ W d t → Leaves (length t) (W d t) → SameBelow (length t) (I d) (J d) → items_body V I d t ≡ items_body W J d t
 items_same V W I J d t v w i =
@@ -59,11 +59,11 @@ members_same : (P Q : Bytes → Front (List Piece)) (V W : ℕ → Bytes → Fro
 members_same P Q V W M N d t p q v w m =
     bind_mark_same (length t) (mark_at 34 t) _ _ (mark_short 34 t)
     (λ begun l. ap (λ o. then_read o λ name rest. option_and_then (λ colon. then_read (V d colon) λ j rest. on_mark (mark_at 44 rest) (λ more. option_map (λ q. (member (bytes_of name) j q.0, q.1)) (M d more)) (option_map (λ after. (member (bytes_of name) j no_members, after)) (mark_at 125 rest))) (mark_at 58 rest)) (p begun l)
-        ∙ bind_same (length begun) (Q begun) _ _ (q begun)
-        (λ n g. bind_mark_same (length n.1) (mark_at 58 n.1) _ _ (mark_short 58 n.1)
-            (λ colon h. ap (λ o. then_read o λ j rest. on_mark (mark_at 44 rest) (λ more. option_map (λ q. (member (bytes_of n.0) j q.0, q.1)) (M d more)) (option_map (λ after. (member (bytes_of n.0) j no_members, after)) (mark_at 125 rest))) (v colon (omega arith))
-                ∙ bind_same (length colon) (W d colon) _ _ (w colon)
-                (λ j f. on_mark_same (length j.1) (mark_at 44 j.1) _ _ _ _ (mark_short 44 j.1) (λ r e. ap (option_map (λ q. (member (bytes_of n.0) j.0 q.0, q.1))) (m r (omega arith))) refl))))
+    ∙ bind_same (length begun) (Q begun) _ _ (q begun)
+    (λ n g. bind_mark_same (length n.1) (mark_at 58 n.1) _ _ (mark_short 58 n.1)
+    (λ colon h. ap (λ o. then_read o λ j rest. on_mark (mark_at 44 rest) (λ more. option_map (λ q. (member (bytes_of n.0) j q.0, q.1)) (M d more)) (option_map (λ after. (member (bytes_of n.0) j no_members, after)) (mark_at 125 rest))) (v colon (omega arith))
+    ∙ bind_same (length colon) (W d colon) _ _ (w colon)
+    (λ j f. on_mark_same (length j.1) (mark_at 44 j.1) _ _ _ _ (mark_short 44 j.1) (λ r e. ap (option_map (λ q. (member (bytes_of n.0) j.0 q.0, q.1))) (m r (omega arith))) refl))))
 
 -- ---- enough turns
 
@@ -106,7 +106,7 @@ enough (suc k) =
     record {
       values = λ n d t h g. values_step k n d t e h g;
       items = λ n d t h g. items_step k n d t e h g;
-      members = λ n d t h g. members_step k n d t e h g
+      members = λ n d t h g. members_step k n d t e h g;
     }
 
 -- ---- the readers without turns

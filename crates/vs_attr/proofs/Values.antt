@@ -1,12 +1,12 @@
 -- Values, items and members, one at a time.
-use Rattle.std.proofs.Common.{◌≡◌, ℕ, zero, suc, ◌+◌, ◌-◌, ◌*◌, ◌<◌, ◌≤◌, ◌==◌, Bool, true, false, cond, ◌&&◌, ◌||◌, List, [], ◌∷◌, ◌++◌, Option, Some, None, length, drop, refl, ap, sym, ◌∙◌, arith, rules, option_map, option_and_then, IsSome}
+use Rattle.std.proofs.Common.{◌≡◌, ℕ, ◌≤◌, ◌==◌, Bool, true, false, cond, List, [], ◌∷◌, Option, Some, None, length, drop, refl, ap, sym, ◌∙◌, option_map, option_and_then, IsSome}
 use Rattle.vs_defs.specs.Bytes.{Bytes}
 use Rattle.vs_defs.specs.Numeral.{begins_with}
-use Rattle.vs_defs.specs.Json.{Json, Text, Array, Object, Items, no_items, item, Members, no_members, member, Front, then_read, Piece, bytes_of, mark_at, skip_space, plain_value_at}
-use Rattle.vs_defs.specs.AttributeField.{is_named, last_named}
+use Rattle.vs_defs.specs.Json.{Json, Items, no_items, item, Members, no_members, member, Front, then_read, Piece, bytes_of, mark_at, skip_space, plain_value_at}
+use Rattle.vs_defs.specs.AttributeField.{is_named}
 use Rattle.vs_attr.specs.Reading.{pieces_at, value_at, items_at, members_at, rest_of, value_of, string_at, after_name, member_at, text_at, array_at, object_at, value_from}
 use Rattle.vs_attr.specs.Fields.{named_in, found_value, IsReadable}
-use Rattle.vs_attr.proofs.Bodies.{on_mark, on_depth}
+use Rattle.vs_attr.proofs.Bodies.{on_mark}
 use Rattle.vs_attr.proofs.Lengths.{Leaves-rest_of}
 use Rattle.vs_attr.proofs.Turns.{value_leaves, value_is, items_is, members_is}
 

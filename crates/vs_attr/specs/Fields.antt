@@ -1,5 +1,5 @@
 -- What a field stands for.
-use Rattle.std.specs.Prelude.{ℕ, ◌-◌, ◌==◌, Bool, true, false, cond, List, [], ◌∷◌, length, take, IsSome, Option, Some, None, option_map, option_and_then, option_copied}
+use Rattle.std.specs.Prelude.{◌-◌, ◌==◌, true, false, cond, [], ◌∷◌, length, take, IsSome, Option, Some, None, option_map, option_and_then, option_copied}
 use Rattle.std.specs.Borrow.{Bor}
 use Rattle.vs_defs.specs.Bytes.{Bytes}
 use Rattle.vs_defs.specs.Json.{Json, Members, Front, skip_space, whole_value, after_number}

@@ -1,5 +1,5 @@
 -- What a list stands for: the items that are left of an array in an object.
-use Rattle.std.specs.Prelude.{ℕ, Bool, List, [], ◌∷◌, Option, Some, None, option_map, option_and_then, IsSome, unwrap_or}
+use Rattle.std.specs.Prelude.{List, [], Option, Some, None, option_map, option_and_then, IsSome, unwrap_or}
 use Rattle.vs_defs.specs.Bytes.{Bytes}
 use Rattle.vs_defs.specs.Json.{Items, mark_at}
 use Rattle.vs_defs.specs.AttributeField.{Single, singles_of}

@@ -4,7 +4,7 @@
 --     items_at, members_at      the items of an array and the members of an object that have one at least, up to their end
 --     string_at raw             the bytes that a text stands for, whose inside begins there
 --     member_at text            a member's beginning: where the inside of its name begins, and what follows its colon
-use Rattle.std.specs.Prelude.{ℕ, zero, suc, ◌==◌, cond, ◌+◌, ◌-◌, ◌*◌, Bool, true, false, List, [], ◌∷◌, Option, Some, None, option_map, option_and_then, length}
+use Rattle.std.specs.Prelude.{ℕ, zero, suc, ◌==◌, cond, ◌+◌, ◌-◌, ◌*◌, true, false, List, [], ◌∷◌, Option, Some, None, option_map, option_and_then, length}
 use Rattle.vs_defs.specs.Bytes.{Bytes}
 use Rattle.vs_defs.specs.Numeral.{begins_with}
 use Rattle.vs_defs.specs.Json.{Json, Text, Array, Object, Items, no_items, Members, no_members, Front, Piece, unit, mark_at, piece_at, plain_value_at, bytes_of, pieces_within, value_within, items_within, members_within}

@@ -1,5 +1,5 @@
 -- What the types of this crate stand for.
-use Rattle.std.specs.Prelude.{ℕ, ◌+◌, ◌<◌, ◌≤◌, List, [], ◌∷◌, Option, Some, None, option_map, length}
+use Rattle.std.specs.Prelude.{ℕ, ◌<◌, List, [], ◌∷◌, Option, Some, None, option_map, length}
 use Rattle.std.specs.Borrow.{Bor}
 use Rattle.std.specs.Char.{encode_utf8}
 use Rattle.vs_defs.specs.Bytes.{Bytes}

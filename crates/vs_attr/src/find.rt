@@ -1,18 +1,18 @@
 //! What stands under a name in a JSON object.
 #![tactic(auto)]
 
+ghost use Rattle.std.specs.Prelude.{◌≡◌, cond, Some, None, IsSome, IfSome, option_map, option_copied};
+ghost use Rattle.std.specs.Str.{is_utf8 as is_utf8_text};
+ghost use Rattle.vs_defs.specs.AttributeField.{field_of_value, field_of};
+ghost use Rattle.vs_attr.specs.Reading.{value_at, members_at, value_of};
+ghost use Rattle.vs_attr.specs.Fields.{field_seen, found_value, found_seen, named_in, member_found, found_whole, IsReadable};
+
 use crate::kind::{Field, single};
 use crate::list::JsonList;
 use crate::space::{mark_at, skip_space};
 use crate::text::is_named;
 use crate::value::{member_at, value_end};
 use std::str;
-
-ghost use Rattle.std.specs.Prelude.{◌≡◌, cond, Some, None, IsSome, IfSome, option_map, option_copied};
-ghost use Rattle.std.specs.Str.{is_utf8 as is_utf8_text};
-ghost use Rattle.vs_defs.specs.AttributeField.{field_of_value, field_of};
-ghost use Rattle.vs_attr.specs.Reading.{value_at, members_at, value_of};
-ghost use Rattle.vs_attr.specs.Fields.{field_seen, found_value, found_seen, named_in, member_found, found_whole, IsReadable};
 
 /// How many objects and arrays may be open in a member's value: 64 at most in
 /// the whole text.

@@ -1,17 +1,17 @@
 //! The kinds of a value.
 #![tactic(auto)]
 
-use crate::list::JsonList;
-use crate::number::after_number;
-use crate::space::skip_space;
-use crate::text::JsonText;
-use vs_decimal::read_fixed;
-
 ghost use Rattle.std.specs.Prelude.{◌≡◌, ◌≤◌, length};
 ghost use Rattle.vs_defs.specs.Json.{skip_space as past_space};
 ghost use Rattle.vs_defs.specs.AttributeField.{One, text_field};
 ghost use Rattle.vs_attr.specs.Reading.{string_at};
 ghost use Rattle.vs_attr.specs.Fields.{field_seen, number_single, plain_single as plain_kind, single_from};
+
+use crate::list::JsonList;
+use crate::number::after_number;
+use crate::space::skip_space;
+use crate::text::JsonText;
+use vs_decimal::read_fixed;
 
 /// A value of an attribute, by its kind.
 #[derive(Drop)]

@@ -1,16 +1,16 @@
 //! The items of an array.
 #![tactic(auto)]
 
-use crate::kind::{Field, single};
-use crate::space::mark_at;
-use crate::value::value_end;
-use std::marker::Model;
-
 ghost use Rattle.std.specs.Prelude.{◌≡◌, List, Option, Some, None, option_map, option_copied, drop};
 ghost use Rattle.vs_defs.specs.AttributeField.{One, Single};
 ghost use Rattle.vs_defs.specs.Bytes.{first_in};
 ghost use Rattle.vs_attr.specs.Listed.{item_next, items_inside, IsArrayInside};
 ghost use Rattle.vs_attr.specs.Fields.{field_seen};
+
+use crate::kind::{Field, single};
+use crate::space::mark_at;
+use crate::value::value_end;
+use std::marker::Model;
 
 /// How many objects and arrays may be open in an item of a list, which stands
 /// in an array in an object: 64 at most in the whole text.

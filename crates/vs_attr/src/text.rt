@@ -1,9 +1,6 @@
 //! Texts, decoded byte by byte.
 #![tactic(auto)]
 
-use crate::piece::{Piece, inner_piece};
-use std::marker::Model;
-
 ghost use Rattle.std.specs.Prelude.{◌≡◌, ◌+◌, ◌-◌, ◌*◌, ◌/◌, ◌%◌, ◌≤◌, ◌<◌, ◌++◌, List, [], ◌∷◌, ℕ, Some, None, IsSome, is_some, unwrap_or, drop, length, cond, true};
 ghost use Rattle.vs_defs.specs.Numeral.{begins_with};
 ghost use Rattle.std.specs.Char.{encode_utf8};
@@ -12,6 +9,9 @@ ghost use Rattle.vs_defs.specs.Json.{after_bytes, is_high as is_high_unit, is_lo
 ghost use Rattle.vs_defs.specs.AttributeField.{is_named as named};
 ghost use Rattle.vs_attr.specs.Reading.{string_at, string_behind, pair_of};
 ghost use Rattle.vs_attr.specs.Seen.{step_seen, StepIsShorter};
+
+use crate::piece::{Piece, inner_piece};
+use std::marker::Model;
 
 /// What stands next in a text.
 enum Step<'a> {

@@ -1,10 +1,6 @@
 //! Where a value ends: RFC 8259, sections 3 to 5.
 #![tactic(auto)]
 
-use crate::number::after_number;
-use crate::piece::text_end;
-use crate::space::{mark_at, skip_space};
-
 ghost use Rattle.std.specs.Prelude.{◌≡◌, ◌≤◌, ◌<◌, length, option_map, IfSome, cond, drop, Some, None};
 ghost use Rattle.std.specs.List.{starts_with};
 ghost use Rattle.std.specs.Bool.{nat_eq};
@@ -12,6 +8,10 @@ ghost use Rattle.vs_defs.specs.Numeral.{begins_with as front_is};
 ghost use Rattle.vs_defs.specs.Json.{plain_value_at};
 ghost use Rattle.vs_attr.specs.Reading.{value_at, value_from, array_at, object_at, items_at, members_at, rest_of, member_at as member_in};
 ghost use Rattle.vs_attr.specs.Seen.{member_seen};
+
+use crate::number::after_number;
+use crate::piece::text_end;
+use crate::space::{mark_at, skip_space};
 
 fn begins_with(byte: u8, text: &[u8]) -> bool
     ensures { result ≡ front_is byte text.now }

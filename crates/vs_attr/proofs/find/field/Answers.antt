@@ -1,4 +1,4 @@
-use Rattle.std.proofs.Common.{◌≡◌, true, sym, ap, ◌∙◌, option_map}
+use Rattle.std.proofs.Common.{◌≡◌, true, ap, ◌∙◌, option_map}
 use Rattle.std.specs.Str.{is_utf8}
 use Rattle.vs_defs.specs.AttributeField.{option_field, field_of_value}
 use Rattle.vs_attr.specs.Fields.{member_found}

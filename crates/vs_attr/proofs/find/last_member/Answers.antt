@@ -20,10 +20,10 @@ loop-raw-smaller c =
 pub loop-raw-preserved : goal.loop-raw-preserved
 loop-raw-preserved c = record {
   value = named_step c.args.name.now c.loop-raw.text.now c.in_ok-raw.raw.now c.in_ok-raw.value.now c.in_ok-rest.rest.now c.in-Some.more.now
-    (option_copied c.loop-raw.found) (option_copied c.latest-found.result) c.is_named.result
-    (sym c.in_ok-raw.ensures.value) (sym c.in_ok-rest.ensures) (sym c.in-Some.ensures.value) c.is_named.ensures c.latest-found.ensures ∙ c.loop-raw.invariant.value;
+      (option_copied c.loop-raw.found) (option_copied c.latest-found.result) c.is_named.result
+      (sym c.in_ok-raw.ensures.value) (sym c.in_ok-rest.ensures) (sym c.in-Some.ensures.value) c.is_named.ensures c.latest-found.ensures ∙ c.loop-raw.invariant.value;
   readable = rw c.latest-found.ensures (latest_readable c.in_ok-raw.value.now (option_copied c.loop-raw.found) c.is_named.result
-    (some_value (value_at 63 c.in_ok-raw.value.now) c.in_ok-rest.rest.now (sym c.in_ok-rest.ensures)) c.loop-raw.invariant.readable)
+      (some_value (value_at 63 c.in_ok-raw.value.now) c.in_ok-rest.rest.now (sym c.in_ok-rest.ensures)) c.loop-raw.invariant.readable);
 }
 
 pub returns-in_err-after-in-None-clause-value : goal.returns-in_err-after-in-None-clause-value

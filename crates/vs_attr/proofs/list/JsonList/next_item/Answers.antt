@@ -1,4 +1,4 @@
-use Rattle.std.proofs.Common.{◌≡◌, Some, sym, ap, ◌∙◌, subst, drop, option_map, option_copied}
+use Rattle.std.proofs.Common.{Some, sym, ap, ◌∙◌, subst, drop, option_map, option_copied}
 use Rattle.vs_defs.specs.AttributeField.{One}
 use Rattle.vs_defs.specs.Bytes.{first_in}
 use Rattle.vs_attr.specs.Listed.{AreItems, items_left}
