@@ -41,7 +41,7 @@ impl<'a> Few<'a> {
 
     /// It takes no memory.
     pub(crate) fn offer(&mut self, candidate: Candidate<'a>)
-        ensures nears { self.new.nears ≡ take self.old.most (place_by near_cmp (near_of candidate) self.old.nears) }
+        ensures nears { self.new.nears ≡ take self.old.most (place_by near_cmp (near_of candidate.entry) self.old.nears) }
         ensures most { self.new.most ≡ self.old.most }
     {
         if self.heap.len() < self.most as usize {
@@ -54,7 +54,7 @@ impl<'a> Few<'a> {
 
     fn insert(&mut self, candidate: Candidate<'a>)
         requires { length self.old.nears < self.old.most }
-        ensures nears { self.new.nears ≡ place_by near_cmp (near_of candidate) self.old.nears }
+        ensures nears { self.new.nears ≡ place_by near_cmp (near_of candidate.entry) self.old.nears }
         ensures most { self.new.most ≡ self.old.most }
     {
         match self.heap.push(candidate) {
@@ -82,7 +82,7 @@ impl<'a> Few<'a> {
 
     /// The candidates in order. It takes no memory.
     pub(crate) fn into_sorted(self) -> Vec<Candidate<'a>>
-        ensures { map near_of result.items ≡ self.nears }
+        ensures { map near_of result.items ≡ self.entry.nears }
     {
         let Few { heap, most: _ } = self;
         heap.into_sorted_vec()
