@@ -1,1 +1,2 @@
 pub mod Shuffles
+pub mod Words

@@ -2,3 +2,5 @@ pub mod Answers
 pub mod Refusals
 pub mod Outcomes
 pub mod Requests
+pub mod Readings
+pub mod Words

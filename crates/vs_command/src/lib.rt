@@ -2,9 +2,11 @@
 #![tactic(auto)]
 
 mod answer;
+mod command;
 mod drawn;
 mod refusal;
 mod request;
+mod word;
 
 pub use answer::{Answer, Info, NamedHit};
 pub use drawn::{draws, level_of_word, picks, place_of_word};
