@@ -4,3 +4,4 @@ pub mod Outcomes
 pub mod Requests
 pub mod Readings
 pub mod Words
+pub mod Options

@@ -1,11 +1,13 @@
 //! Single words of a message.
-ghost use Rattle.std.specs.Prelude.{◌≡◌, ◌<◌, ◌≤◌, ◌^◌, length, IfOk, IfSome};
+ghost use Rattle.std.specs.Prelude.{◌≡◌, ◌<◌, ◌≤◌, ◌+◌, ◌^◌, length, IfOk, IfSome};
 ghost use Rattle.std.specs.Str.{str_to_ascii_lowercase};
 ghost use Rattle.vs_command.specs.Readings.{Gives, AreShort};
+ghost use Rattle.vs_command.specs.Options.{value as value_in};
 ghost use Rattle.vs_defs.specs.Bounds.{IsNameInBounds, IsAttributeInBounds, IsFrom};
 ghost use Rattle.vs_defs.specs.Bytes.{is_word as names};
 ghost use Rattle.vs_defs.specs.Decimal.{read_int as int_in};
-ghost use Rattle.vs_defs.specs.Read.{word as word_in, read_key as key_in, read_name as name_in, read_attribute as attribute_in, option_within};
+ghost use Rattle.vs_defs.specs.Read.{word as word_in, read_key as key_in, read_name as name_in, read_attribute as attribute_in, option_within, read_number as number_in};
+ghost use Rattle.vs_defs.specs.Request as request;
 
 use crate::Refusal;
 use vs_decimal::read_int;
@@ -77,6 +79,21 @@ pub(crate) fn read_attribute(word: &Text) -> Result<&Text, Refusal>
     Ok(word)
 }
 
+/// The value of the option at a place, which is the word behind it.
+pub(crate) fn value(words: &[Text], at: usize) -> Result<&Text, Refusal>
+    requires within { at < length words.now }
+    requires short { AreShort words.now }
+    ensures value { Gives (λ w. w.now) result (value_in words.now at) }
+    ensures short { IfOk result (λ w. length w.now < 2 ^ 32) }
+    ensures within { IfOk result (λ w. at + 2 ≤ length words.now) }
+{
+    if at + 1 < words.len() {
+        Ok(word(words, at + 1))
+    } else {
+        Err(Refusal::MissingValue { at: at as u32 })
+    }
+}
+
 /// A whole number from `least` to `most`, where the word spells one.
 pub(crate) fn number_within(word: &Text, least: u32, most: u32) -> Option<u32>
     ensures number { result ≡ option_within least most (int_in word.now) }
@@ -84,4 +101,16 @@ pub(crate) fn number_within(word: &Text, least: u32, most: u32) -> Option<u32>
 {
     let number = u32::try_from(read_int(word.as_slice())?).ok()?;
     (least..=most).contains(&number).then_some(number)
+}
+
+/// The value of EF, at its place.
+pub(crate) fn read_ef(word: &Text, at: usize) -> Result<u32, Refusal>
+    requires { at < 2 ^ 32 }
+    ensures ef { Gives (λ ef. ef) result (number_in 1 65536 (request.BadEf at) word.now) }
+    ensures bounds { IfOk result (IsFrom 1 65536) }
+{
+    match number_within(word, 1, 65536) {
+        Some(ef) => Ok(ef),
+        None => Err(Refusal::BadEf { at: at as u32 }),
+    }
 }
