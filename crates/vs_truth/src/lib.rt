@@ -5,6 +5,8 @@ mod candidate;
 mod few;
 mod members;
 mod scan;
+#[cfg(test)]
+mod tests;
 
 pub use candidate::Hit;
 pub use members::Members;
