@@ -10,7 +10,8 @@ use Rattle.vs_defs.specs.History as history
 use Rattle.vs_defs.specs.History.{History, Entry, own, store_after}
 use Rattle.vs_defs.specs.PlainMachine.{PlainHistory, PlainFollows, PlainAnswers, PlainChanges, PlainDoes}
 use Rattle.vs_defs.specs.PlainStep.{PlainStep}
-use Rattle.vs_session.specs.Stage.{Call, Legal, store_at}
+use Rattle.vs_session.specs.Stage.{Call, Legal}
+use Rattle.vs_session.specs.Stored.{Stored}
 
 pub legal_push : (before h : PlainHistory) (e : Entry PlainStore) → history.LegalAfter (PlainFollows usual_limits) before h → PlainFollows usual_limits (before ++ h) e
     → history.LegalAfter (PlainFollows usual_limits) before (h ++ e ∷ [])
@@ -28,12 +29,6 @@ own_push (d ∷ h) e is = elim (d.author == 0) as (λ b. cond b (d ∷ own 0 (h 
   | true ↦ ap (λ (l : PlainHistory). d ∷ l) (own_push h e is)
   | false ↦ own_push h e is
 ]
-
--- The store is that of a legal history of one author's changes.
-pub record Stored (store : PlainStore) (h : PlainHistory) : Type 0 where
-  pub legal : Legal h
-  pub store_is : store_at h ≡ store
-  pub by_one : own 0 h ≡ h
 
 -- a call, and the history after it
 abbrev pub Calls : PlainHistory → Request → List ℕ → Outcome → PlainStore → Type 0

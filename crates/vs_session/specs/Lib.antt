@@ -1,1 +1,6 @@
 pub mod Stage
+pub mod Written
+pub mod Stored
+pub mod Served
+pub mod Connection
+pub mod SoFar

@@ -1,2 +1,10 @@
 //! One connection: requests in, replies out, over one store.
 #![tactic(auto)]
+
+mod end;
+mod generator;
+mod serve;
+mod server;
+mod write;
+
+pub use end::SessionEnd;
