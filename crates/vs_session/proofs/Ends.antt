@@ -24,7 +24,6 @@ use Rattle.vs_resp.specs.declared.Fault.{Fault}
 use Rattle.vs_resp.specs.Stands.{Stands, failure, answer_of, fault_of}
 use Rattle.vs_session.specs.declared.end.SessionEnd.{SessionEnd}
 use Rattle.vs_session.specs.declared.end.SessionEnd.TheVariants.{Ended, CutShort, Protocol, WriteFault, ReadFault, Spent, NoMemory}
-use Rattle.vs_session.specs.declared.server.Server.{Server}
 use Rattle.vs_session.specs.Stage.{Call, read, draws}
 use Rattle.vs_session.specs.Connection.{EndsWith}
 use Rattle.vs_session.specs.SoFar.{SoFar, Answered, AllAnswered, Going}
@@ -47,13 +46,14 @@ err_other (Some other) error e n f =
 
 -- ---- before the first byte
 
-pub at_start : (d : Decoder) (server : Server) (start : Lcg) → Stands d [] [] → failure d ≡ None → server.store ≡ empty_store usual_limits → server.generator ≡ start → Going d server start [] []
-at_start d server start stands going empty first = record {
+pub at_start : (d : Decoder) (now : PlainHistory → Lcg → Type 0) (start : Lcg) → Stands d [] [] → failure d ≡ None → now [] start → Going d now start [] []
+at_start d now start stands going here = record {
   answered = record {
     given = [];
     outcomes = [];
     history = [];
-    so_far = record { stands = stands; serves = (refl, first); going = refl; written = refl; stored = record { legal = tt; store_is = sym empty; by_one = refl } };
+    generator = start;
+    so_far = record { stands = stands; serves = (refl, refl); going = refl; written = refl; now_is = here; own = record { legal = tt; by_one = refl } };
     first = ([], Border, refl, ([], refl));
     all = λ kept. ([], Border, refl, refl);
   };
@@ -61,22 +61,31 @@ at_start d server start stands going empty first = record {
   going = going;
 }
 
+-- memory was wanting before the first read
+pub ends_at_once : (start : Lcg) → EndsWith NoMemory start [] []
+ends_at_once start = record {
+  history = [];
+  generator = start;
+  own = record { legal = tt; by_one = refl };
+  holds = record { messages = []; ends = Border; splits = refl; answered = []; outcomes = []; serves = (refl, refl); first = ([], refl); written = refl };
+}
+
 -- ---- a piece
 
 -- a piece was taken, and the messages that it brought were answered
-abbrev pub more_answered : (l0 l1 l2 w0 w1 w2 : Option Bytes) (d e f : Decoder) (server after : Server) (start : Lcg) (piece : Bytes) (taken : ℕ) (result : Option SessionEnd) →
-    (input : Bytes) × (output : Bytes) × (l0 ≡ in_front input l1) × Adds w0 output w1 × Going d server start input output × (length input ≡ taken) →
+abbrev pub more_answered : (l0 l1 l2 w0 w1 w2 : Option Bytes) (d e f : Decoder) (before now : PlainHistory → Lcg → Type 0) (start : Lcg) (piece : Bytes) (taken : ℕ) (result : Option SessionEnd) →
+    (input : Bytes) × (output : Bytes) × (l0 ≡ in_front input l1) × Adds w0 output w1 × Going d before start input output × (length input ≡ taken) →
     l1 ≡ in_front piece l2 →
     ((fed : Bytes) (given : List Message) → Stands d fed given → Stands e (fed ++ piece) given) →
-    ((start : Lcg) (input : Bytes) (given : List Message) (outcomes : List Outcome) (output : Bytes) (h : PlainHistory) → SoFar e server start input given outcomes output h →
-    (more : Bytes) × Adds w1 more w2 × AllAnswered result f after start input (output ++ more)) →
-    (input : Bytes) × (output : Bytes) × (l0 ≡ in_front input l2) × Adds w0 output w2 × AllAnswered result f after start input output × (length input ≡ taken + length piece)
-more_answered l0 l1 l2 w0 w1 w2 d e f server after start piece taken result i left stands all =
+    ((start : Lcg) (input : Bytes) (given : List Message) (outcomes : List Outcome) (output : Bytes) (h : PlainHistory) (g : Lcg) → SoFar e before start input given outcomes output h g →
+    (more : Bytes) × Adds w1 more w2 × AllAnswered result f now start input (output ++ more)) →
+    (input : Bytes) × (output : Bytes) × (l0 ≡ in_front input l2) × Adds w0 output w2 × AllAnswered result f now start input output × (length input ≡ taken + length piece)
+more_answered l0 l1 l2 w0 w1 w2 d e f before now start piece taken result i left stands all =
     let answered = i.4.answered in
     let s = answered.so_far in
-    let on : SoFar e server start (i.0 ++ piece) answered.given answered.outcomes i.1 answered.history =
-    record { stands = stands i.0 answered.given s.stands; serves = s.serves; going = s.going; written = s.written; stored = s.stored } in
-    let a = all start (i.0 ++ piece) answered.given answered.outcomes i.1 answered.history on in (
+    let on : SoFar e before start (i.0 ++ piece) answered.given answered.outcomes i.1 answered.history answered.generator =
+    record { stands = stands i.0 answered.given s.stands; serves = s.serves; going = s.going; written = s.written; now_is = s.now_is; own = s.own } in
+    let a = all start (i.0 ++ piece) answered.given answered.outcomes i.1 answered.history answered.generator on in (
       i.0 ++ piece,
       i.1 ++ a.0,
       in_front-trans l0 l1 l2 i.0 piece i.2 left,
@@ -87,10 +96,10 @@ more_answered l0 l1 l2 w0 w1 w2 d e f server after start piece taken result i le
 
 -- ---- ends
 
-abbrev finished : (d : Decoder) (server : Server) (start : Lcg) (input : Bytes) (given : List Message) (outcomes : List Outcome) (output : Bytes) (h : PlainHistory) (e : End) →
-    SoFar d server start input given outcomes output h → EndsSo true input given e →
-    session.Finished Call true read draws 0 start [] input (output ++ closing_line input e) h server.generator (ending_by input e)
-finished d server start input given outcomes output h e s ends = record {
+abbrev finished : (d : Decoder) (now : PlainHistory → Lcg → Type 0) (start : Lcg) (input : Bytes) (given : List Message) (outcomes : List Outcome) (output : Bytes) (h : PlainHistory) (g : Lcg) (e : End) →
+    SoFar d now start input given outcomes output h g → EndsSo true input given e →
+    session.Finished Call true read draws 0 start [] input (output ++ closing_line input e) h g (ending_by input e)
+finished d now start input given outcomes output h g e s ends = record {
   session = record {
     messages = ends.0;
     ends = e;
@@ -106,9 +115,9 @@ finished d server start input given outcomes output h e s ends = record {
   ending = subst (λ (b : Bool). ending_by input e ≡ elim b [ true ↦ session.Quit | false ↦ ending_by input e ]) (sym s.going) refl;
 }
 
-abbrev read_part : (d : Decoder) (server : Server) (start : Lcg) (input output : Bytes) (a : Answered d server start input output) → failure d ≡ None →
-    session.ReadPart Call true read draws 0 start [] input output a.history server.generator
-read_part d server start input output a going =
+abbrev read_part : (d : Decoder) (now : PlainHistory → Lcg → Type 0) (start : Lcg) (input output : Bytes) (a : Answered d now start input output) → failure d ≡ None →
+    session.ReadPart Call true read draws 0 start [] input output a.history a.generator
+read_part d now start input output a going =
     let g : GivenAll true input a.given = a.all (none_kept (failure d) going) in
     record {
       begun = record {
@@ -124,33 +133,30 @@ read_part d server start input output a going =
       all = sym g.3;
     }
 
-pub ends_read : (d : Decoder) (server : Server) (start : Lcg) (input output : Bytes) → Going d server start input output → EndsWith ReadFault start input output
-ends_read d server start input output g = record {
+pub ends_read : (d : Decoder) (now : PlainHistory → Lcg → Type 0) (start : Lcg) (input output : Bytes) → Going d now start input output → EndsWith ReadFault start input output
+ends_read d now start input output g = record {
   history = g.answered.history;
-  generator = server.generator;
-  legal = g.answered.so_far.stored.legal;
-  by_one = g.answered.so_far.stored.by_one;
-  holds = read_part d server start input output g.answered g.going;
+  generator = g.answered.generator;
+  own = g.answered.so_far.own;
+  holds = read_part d now start input output g.answered g.going;
 }
 
-pub ends_spent : (d : Decoder) (server : Server) (start : Lcg) (input output : Bytes) → Going d server start input output → 2 ^ 62 ≤ length input → EndsWith Spent start input output
-ends_spent d server start input output g many = (
+pub ends_spent : (d : Decoder) (now : PlainHistory → Lcg → Type 0) (start : Lcg) (input output : Bytes) → Going d now start input output → 2 ^ 62 ≤ length input → EndsWith Spent start input output
+ends_spent d now start input output g many = (
   many,
   record {
     history = g.answered.history;
-    generator = server.generator;
-    legal = g.answered.so_far.stored.legal;
-    by_one = g.answered.so_far.stored.by_one;
-    holds = read_part d server start input output g.answered g.going;
+    generator = g.answered.generator;
+    own = g.answered.so_far.own;
+    holds = read_part d now start input output g.answered g.going;
   },
 )
 
-pub ends_memory : (d : Decoder) (server : Server) (start : Lcg) (input output : Bytes) → Answered d server start input output → EndsWith NoMemory start input output
-ends_memory d server start input output a = record {
+pub ends_memory : (d : Decoder) (now : PlainHistory → Lcg → Type 0) (start : Lcg) (input output : Bytes) → Answered d now start input output → EndsWith NoMemory start input output
+ends_memory d now start input output a = record {
   history = a.history;
-  generator = server.generator;
-  legal = a.so_far.stored.legal;
-  by_one = a.so_far.stored.by_one;
+  generator = a.generator;
+  own = a.so_far.own;
   holds = record {
     messages = a.first.0;
     ends = a.first.1;
@@ -163,58 +169,54 @@ ends_memory d server start input output a = record {
   };
 }
 
-pub ends_whole : (d : Decoder) (server : Server) (start : Lcg) (input output : Bytes) → Going d server start input output → IsStream true input → EndsWith Ended start input output
-ends_whole d server start input output g whole =
+pub ends_whole : (d : Decoder) (now : PlainHistory → Lcg → Type 0) (start : Lcg) (input output : Bytes) → Going d now start input output → IsStream true input → EndsWith Ended start input output
+ends_whole d now start input output g whole =
     let a = g.answered in
     let ends = ends_border true input a.given (a.all (none_kept (failure d) g.going)) whole in
     record {
       history = a.history;
-      generator = server.generator;
-      legal = a.so_far.stored.legal;
-      by_one = a.so_far.stored.by_one;
-      holds = subst (λ (l : Bytes). session.Finished Call true read draws 0 start [] input l a.history server.generator session.Ended) (append-nil output)
-          (finished d server start input a.given a.outcomes output a.history Border a.so_far ends);
+      generator = a.generator;
+      own = a.so_far.own;
+      holds = subst (λ (l : Bytes). session.Finished Call true read draws 0 start [] input l a.history a.generator session.Ended) (append-nil output)
+          (finished d now start input a.given a.outcomes output a.history a.generator Border a.so_far ends);
     }
 
-pub ends_cut : (d : Decoder) (server : Server) (start : Lcg) (input output : Bytes) → Going d server start input output → (IsStream true input → ⊥) → EndsWith CutShort start input output
-ends_cut d server start input output g not_whole =
+pub ends_cut : (d : Decoder) (now : PlainHistory → Lcg → Type 0) (start : Lcg) (input output : Bytes) → Going d now start input output → (IsStream true input → ⊥) → EndsWith CutShort start input output
+ends_cut d now start input output g not_whole =
     let a = g.answered in
     let ends = ends_within true input a.given (a.all (none_kept (failure d) g.going)) g.begins not_whole in
     record {
       history = a.history;
-      generator = server.generator;
-      legal = a.so_far.stored.legal;
-      by_one = a.so_far.stored.by_one;
-      holds = subst (λ (l : Bytes). session.Finished Call true read draws 0 start [] input l a.history server.generator session.CutShort) (append-nil output)
-          (finished d server start input a.given a.outcomes output a.history Within a.so_far ends);
+      generator = a.generator;
+      own = a.so_far.own;
+      holds = subst (λ (l : Bytes). session.Finished Call true read draws 0 start [] input l a.history a.generator session.CutShort) (append-nil output)
+          (finished d now start input a.given a.outcomes output a.history a.generator Within a.so_far ends);
     }
 
-pub ends_fault : (d : Decoder) (server : Server) (start : Lcg) (input output : Bytes) (fault : Fault) (at : ℕ) → Answered d server start input output → (failure d ≡ Some FeedNoMemory → ⊥) →
+pub ends_fault : (d : Decoder) (now : PlainHistory → Lcg → Type 0) (start : Lcg) (input output : Bytes) (fault : Fault) (at : ℕ) → Answered d now start input output → (failure d ≡ Some FeedNoMemory → ⊥) →
     HasFault true input (fault_of fault) at → EndsWith (Protocol fault at) start input (output ++ fault_line (fault_of fault) at)
-ends_fault d server start input output fault at a kept broken =
+ends_fault d now start input output fault at a kept broken =
     let ends = ends_broken_at true input a.given (fault_of fault) at (a.all kept) broken in
     record {
       history = a.history;
-      generator = server.generator;
-      legal = a.so_far.stored.legal;
-      by_one = a.so_far.stored.by_one;
-      holds = subst (λ (n : ℕ). session.Finished Call true read draws 0 start [] input (output ++ fault_line (fault_of fault) n) a.history server.generator (session.Protocol (fault_of fault) n)) (sym ends.2)
-          (finished d server start input a.given a.outcomes output a.history (Broken (fault_of fault) ends.0) a.so_far ends.1);
+      generator = a.generator;
+      own = a.so_far.own;
+      holds = subst (λ (n : ℕ). session.Finished Call true read draws 0 start [] input (output ++ fault_line (fault_of fault) n) a.history a.generator (session.Protocol (fault_of fault) n)) (sym ends.2)
+          (finished d now start input a.given a.outcomes output a.history a.generator (Broken (fault_of fault) ends.0) a.so_far ends.1);
     }
 
-pub loses_line : (d : Decoder) (server : Server) (start : Lcg) (input output : Bytes) (fault : Fault) (at : ℕ) (done lost : Bytes) → Answered d server start input output →
+pub loses_line : (d : Decoder) (now : PlainHistory → Lcg → Type 0) (start : Lcg) (input output : Bytes) (fault : Fault) (at : ℕ) (done lost : Bytes) → Answered d now start input output →
     (failure d ≡ Some FeedNoMemory → ⊥) → HasFault true input (fault_of fault) at → fault_line (fault_of fault) at ≡ done ++ lost → 1 ≤ length lost →
     EndsWith WriteFault start input (output ++ done)
-loses_line d server start input output fault at done lost a kept broken parts some =
+loses_line d now start input output fault at done lost a kept broken parts some =
     let ends = ends_broken_at true input a.given (fault_of fault) at (a.all kept) broken in
     let line : fault_line (fault_of fault) (place_in input ends.0) ≡ done ++ lost = ap (fault_line (fault_of fault)) (sym ends.2) ∙ parts in
     let whole : output ++ fault_line (fault_of fault) (place_in input ends.0) ≡ (output ++ done) ++ lost = ap (λ (l : Bytes). output ++ l) line ∙ sym (append_assoc output done lost) in
-    let f = finished d server start input a.given a.outcomes output a.history (Broken (fault_of fault) ends.0) a.so_far ends.1 in
+    let f = finished d now start input a.given a.outcomes output a.history a.generator (Broken (fault_of fault) ends.0) a.so_far ends.1 in
     record {
       history = a.history;
-      generator = server.generator;
-      legal = a.so_far.stored.legal;
-      by_one = a.so_far.stored.by_one;
+      generator = a.generator;
+      own = a.so_far.own;
       holds = inr (record {
           missing = lost;
           session = record {

@@ -20,42 +20,42 @@ use Rattle.vs_resp.specs.Stands.{Stands}
 use Rattle.vs_defs.proofs.MessageLimits.{IsWithinLimits, answered_few}
 use Rattle.std.proofs.lemmas.List.Elements.{All-tail, All-cons}
 use Rattle.vs_session.specs.declared.end.SessionEnd.TheVariants.{Quit, WriteFault, ReadFault, Spent, NoMemory}
-use Rattle.vs_session.specs.declared.server.Server.{Server}
 use Rattle.vs_session.specs.Stage.{Call, Legal, read, draws, Serves, ServesOne}
-use Rattle.vs_session.specs.Stored.{Stored}
+use Rattle.vs_session.specs.Own.{IsOwn}
 use Rattle.vs_session.specs.Served.{IsServed}
 use Rattle.vs_session.specs.Connection.{EndsWith, OwnHistory}
 use Rattle.vs_session.specs.SoFar.{SoFar, Answered, Going}
 use Rattle.vs_session.proofs.Serving.{replies_push, quits_push, last_push, serves_push}
 
 -- some messages were answered
-abbrev pub AnsweredSome : Decoder → Server → Lcg → Bytes → Bytes → Type 0
-AnsweredSome decoder server start input output =
-    (given : List Message) × (outcomes : List Outcome) × (h : PlainHistory) × SoFar decoder server start input given outcomes output h
+abbrev pub AnsweredSome : Decoder → (PlainHistory → Lcg → Type 0) → Lcg → Bytes → Bytes → Type 0
+AnsweredSome decoder now start input output =
+    (given : List Message) × (outcomes : List Outcome) × (h : PlainHistory) × (g : Lcg) × SoFar decoder now start input given outcomes output h g
 
 -- ---- one more message
 
 -- what is known of a message that is answered next
-pub record Next (d : Decoder) (server : Server) (start : Lcg) (input : Bytes) (given : List Message) (outcomes : List Outcome) (output : Bytes) (h : PlainHistory)
+pub record Next (d : Decoder) (before : PlainHistory → Lcg → Type 0) (start : Lcg) (input : Bytes) (given : List Message) (outcomes : List Outcome) (output : Bytes) (h : PlainHistory) (i : Lcg)
     (e : Decoder) (m : Message) (o : Outcome) (t : PlainHistory) (g : Lcg) : Type 0 where
-  pub before : SoFar d server start input given outcomes output h
+  pub so_far : SoFar d before start input given outcomes output h i
   pub stands : Stands e input (given ++ m ∷ [])
   pub first : GivenFirst true input (given ++ m ∷ [])
-  pub one : ServesOne server.generator h m o t g
+  pub one : ServesOne i h m o t g
 
 more_replies : (outcomes : List Outcome) (output : Bytes) (o : Outcome) → output ≡ replies outcomes → output ++ reply o ≡ replies (outcomes ++ o ∷ [])
 more_replies outcomes output o is = ap (λ (l : Bytes). l ++ reply o) is ∙ sym (replies_push outcomes o)
 
-pub one_more : (d : Decoder) (server after : Server) (start : Lcg) (input : Bytes) (given : List Message) (outcomes : List Outcome) (output : Bytes) (h : PlainHistory)
-    (e : Decoder) (m : Message) (o : Outcome) (t : PlainHistory) →
-    Next d server start input given outcomes output h e m o t after.generator → Stored after.store t → is_bye o ≡ false →
-    SoFar e after start input (given ++ m ∷ []) (outcomes ++ o ∷ []) (output ++ reply o) t
-one_more d server after start input given outcomes output h e m o t n stored bye = record {
+pub one_more : (d : Decoder) (before now : PlainHistory → Lcg → Type 0) (start : Lcg) (input : Bytes) (given : List Message) (outcomes : List Outcome) (output : Bytes) (h : PlainHistory) (i : Lcg)
+    (e : Decoder) (m : Message) (o : Outcome) (t : PlainHistory) (g : Lcg) →
+    Next d before start input given outcomes output h i e m o t g → now t g → IsOwn t → is_bye o ≡ false →
+    SoFar e now start input (given ++ m ∷ []) (outcomes ++ o ∷ []) (output ++ reply o) t g
+one_more d before now start input given outcomes output h i e m o t g n now_is own bye = record {
   stands = n.stands;
-  serves = serves_push start [] given outcomes h server.generator m o t after.generator n.before.serves n.before.going n.one;
+  serves = serves_push start [] given outcomes h i m o t g n.so_far.serves n.so_far.going n.one;
   going = quits_push outcomes o ∙ bye;
-  written = more_replies outcomes output o n.before.written;
-  stored = stored;
+  written = more_replies outcomes output o n.so_far.written;
+  now_is = now_is;
+  own = own;
 }
 
 -- the first messages were answered, and what was written are their replies
@@ -73,17 +73,16 @@ begun start input given outcomes output t g f serves written = record {
 }
 
 -- QUIT was answered
-pub to_quit : (d : Decoder) (server after : Server) (start : Lcg) (input : Bytes) (given : List Message) (outcomes : List Outcome) (output : Bytes) (h : PlainHistory)
-    (e : Decoder) (m : Message) (o : Outcome) (t : PlainHistory) →
-    Next d server start input given outcomes output h e m o t after.generator → Stored after.store t → is_bye o ≡ true →
+pub to_quit : (d : Decoder) (before now : PlainHistory → Lcg → Type 0) (start : Lcg) (input : Bytes) (given : List Message) (outcomes : List Outcome) (output : Bytes) (h : PlainHistory) (i : Lcg)
+    (e : Decoder) (m : Message) (o : Outcome) (t : PlainHistory) (g : Lcg) →
+    Next d before start input given outcomes output h i e m o t g → now t g → IsOwn t → is_bye o ≡ true →
     EndsWith Quit start input (output ++ reply o)
-to_quit d server after start input given outcomes output h e m o t n stored bye =
+to_quit d before now start input given outcomes output h i e m o t g n now_is own bye =
     let yes : quits (outcomes ++ o ∷ []) ≡ true = quits_push outcomes o ∙ bye in
     record {
       history = t;
-      generator = after.generator;
-      legal = stored.legal;
-      by_one = stored.by_one;
+      generator = g;
+      own = own;
       holds = record {
         session = record {
           messages = n.first.0;
@@ -91,31 +90,30 @@ to_quit d server after start input given outcomes output h e m o t n stored bye 
           splits = n.first.2;
           answered = given ++ m ∷ [];
           outcomes = outcomes ++ o ∷ [];
-          serves = serves_push start [] given outcomes h server.generator m o t after.generator n.before.serves n.before.going n.one;
+          serves = serves_push start [] given outcomes h i m o t g n.so_far.serves n.so_far.going n.one;
           written = subst
               (λ (b : Bool). MatchBool b (IsPrefix (given ++ m ∷ []) (with_words n.first.0) × (output ++ reply o ≡ replies (outcomes ++ o ∷ [])))
                   ((given ++ m ∷ [] ≡ with_words n.first.0) × (output ++ reply o ≡ replies (outcomes ++ o ∷ []) ++ closing_line input n.first.1)))
-              (sym yes) ((n.first.3.0, sym n.first.3.1), more_replies outcomes output o n.before.written);
+              (sym yes) ((n.first.3.0, sym n.first.3.1), more_replies outcomes output o n.so_far.written);
         };
         ending = subst (λ (b : Bool). session.Quit ≡ elim b [ true ↦ session.Quit | false ↦ ending_by input n.first.1 ]) (sym yes) refl;
       };
     }
 
 -- the reply lacks its end
-pub loses : (d : Decoder) (server : Server) (start : Lcg) (input : Bytes) (given : List Message) (outcomes : List Outcome) (output : Bytes) (h : PlainHistory)
+pub loses : (d : Decoder) (before : PlainHistory → Lcg → Type 0) (start : Lcg) (input : Bytes) (given : List Message) (outcomes : List Outcome) (output : Bytes) (h : PlainHistory) (i : Lcg)
     (e : Decoder) (m : Message) (o : Outcome) (t : PlainHistory) (g : Lcg) (done lost : Bytes) →
-    Next d server start input given outcomes output h e m o t g → Legal t → session.IsByOne 0 t → reply o ≡ done ++ lost → 1 ≤ length lost →
+    Next d before start input given outcomes output h i e m o t g → IsOwn t → reply o ≡ done ++ lost → 1 ≤ length lost →
     EndsWith WriteFault start input (output ++ done)
-loses d server start input given outcomes output h e m o t g done lost n legal own parts some = record {
+loses d before start input given outcomes output h i e m o t g done lost n own parts some = record {
   history = t;
   generator = g;
-  legal = legal;
-  by_one = own;
+  own = own;
   holds = inl (record {
       missing = lost;
       begun = begun start input (given ++ m ∷ []) (outcomes ++ o ∷ []) ((output ++ done) ++ lost) t g n.first
-          (serves_push start [] given outcomes h server.generator m o t g n.before.serves n.before.going n.one)
-          (append_assoc output done lost ∙ ap (λ (l : Bytes). output ++ l) (sym parts) ∙ more_replies outcomes output o n.before.written);
+          (serves_push start [] given outcomes h i m o t g n.so_far.serves n.so_far.going n.one)
+          (append_assoc output done lost ∙ ap (λ (l : Bytes). output ++ l) (sym parts) ∙ more_replies outcomes output o n.so_far.written);
       some_missing = some;
       of_last_reply =
           let l = length-append done lost in

@@ -6,18 +6,17 @@ use Rattle.rand_pcg.specs.Lcg.{Lcg}
 use Rattle.vs_defs.specs.Bytes.{Bytes}
 use Rattle.vs_defs.specs.PlainMachine.{PlainHistory}
 use Rattle.vs_session_defs.specs.Session as session
-use Rattle.vs_session_defs.specs.Session.{IsByOne}
 use Rattle.vs_resp.specs.Stands.{fault_of}
 use Rattle.vs_session.specs.declared.end.SessionEnd.{SessionEnd}
 use Rattle.vs_session.specs.declared.end.SessionEnd.TheVariants.{Ended, Quit, Protocol, CutShort, ReadFault, WriteFault, Spent, NoMemory}
-use Rattle.vs_session.specs.Stage.{Call, Legal, read, draws}
+use Rattle.vs_session.specs.Stage.{Call, read, draws}
+use Rattle.vs_session.specs.Own.{IsOwn}
 
 -- the connection's own history, of its changes alone
 pub record OwnHistory (P : PlainHistory → Lcg → Type 0) : Type 0 where
   pub history : PlainHistory
   pub generator : Lcg
-  pub legal : Legal history
-  pub by_one : IsByOne 0 history
+  pub own : IsOwn history
   pub holds : P history generator
 
 abbrev pub Whole : Lcg → Bytes → Bytes → session.Ending → Type 0

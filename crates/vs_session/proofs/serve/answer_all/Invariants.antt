@@ -12,9 +12,9 @@ use Rattle.vs_session.proofs.serve.answer_all.Given as goal
 
 abbrev pub invariant-loop-message : goal.invariant-loop-message
 invariant-loop-message g l = record {
-  session : (start : Lcg) (input : Bytes) (given : List Message) (outcomes : List Outcome) (output : Bytes) (h : PlainHistory) →
-      SoFar l.fn.decoder l.fn.server start input given outcomes output h →
-      (more : Bytes) × Adds (g.K.Sink.written l.fn.sink) more (g.K.Sink.written l.sink) × AnsweredSome l.decoder l.server start input (output ++ more);
+  session : (start : Lcg) (input : Bytes) (given : List Message) (outcomes : List Outcome) (output : Bytes) (h : PlainHistory) (i : Lcg) →
+      SoFar l.fn.decoder (g.H.Handler.after l.fn.handler) start input given outcomes output h i →
+      (more : Bytes) × Adds (g.K.Sink.written l.fn.sink) more (g.K.Sink.written l.sink) × AnsweredSome l.decoder (g.H.Handler.after l.handler) start input (output ++ more);
   given : HasGiven l.decoder;
   failure : failure l.decoder ≡ failure l.fn.decoder;
   taken : bytes_taken l.decoder ≡ bytes_taken l.fn.decoder;

@@ -3,7 +3,7 @@ use Rattle.rand_pcg.specs.Lcg.{Lcg}
 use Rattle.rand_pcg.specs.Pcg.{pcg32}
 use Rattle.vs_session_defs.specs.Words.{drawn, after_draws}
 use Rattle.vs_session.proofs.Drawn.{drawn_push, after_push}
-use Rattle.vs_session.proofs.generator.draw.Goals as goal
+use Rattle.vs_session.proofs.random_words.draw.Goals as goal
 
 pub loop-preserved : goal.loop-preserved
 loop-preserved c =
