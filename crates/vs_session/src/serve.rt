@@ -3,7 +3,7 @@ ghost use Rattle.std.specs.Prelude.{◌≡◌, ◌<◌, ◌≤◌, ◌++◌, fal
 ghost use Rattle.rand_pcg.specs.Lcg.{Lcg};
 ghost use Rattle.vs_defs.specs.Bytes.{Bytes};
 ghost use Rattle.vs_defs.specs.Stream.{Message};
-ghost use Rattle.vs_defs.specs.Reply.{Outcome, fault_line};
+ghost use Rattle.vs_defs.specs.Reply.{Outcome, fault_line as fault_line_of};
 ghost use Rattle.vs_defs.specs.PlainMachine.{PlainHistory};
 ghost use Rattle.vs_outside.specs.Known.{Adds, in_front, NothingLeft};
 ghost use Rattle.vs_resp.specs.Stands.{Stands, failure, bytes_taken, fault_of};
@@ -16,6 +16,7 @@ use crate::handler::{Handler, Replied};
 use crate::write::write_all;
 use std::alloc::Global;
 use vs_outside::{NoMemory, Sink, Source, Took};
+use vs_reply::fault_line;
 use vs_resp::{Decoder, Fault, FeedError};
 
 // Answers each message that is ready, until a QUIT or a failed write.
@@ -45,11 +46,12 @@ const SPENT: u64 = 1 << 62;
 
 // Whether a protocol fault's line was written whole.
 fn write_fault<K: Sink>(fault: Fault, at: u64, sink: &mut K) -> bool
-    ensures written { WrittenOf (K.written sink.old) (fault_line (fault_of fault) at) result (K.written sink.new) }
+    ensures written { WrittenOf (K.written sink.old) (fault_line_of (fault_of fault) at) result (K.written sink.new) }
     ensures faults { K.faults sink.old ≤ K.faults sink.new }
     ensures failed { result ≡ false → K.faults sink.old < K.faults sink.new }
 {
-    false
+    let line = fault_line(fault, at);
+    write_all(sink, line.as_slice())
 }
 
 // Serves a connection through this buffer.
