@@ -242,7 +242,7 @@ module _ (at : ℕ → Option Node) (m dim : ℕ) where
     standing : (layer a : ℕ) → is_live ids a ≡ true → layer < layers_at at a → stands_at (members_of at dim ids) layer (name_of at a) ≡ true
     standing layer a la h = are_members.stands layer a la ∙ lt-ltb layer (layers_at at a) h
 
-    degree : (l a : ℕ) → is_live ids a ≡ true → length (neighbours (members_of at dim ids) (named_links at ids) l (name_of at a)) ≡ length (links_at at l a)
+    pub degree : (l a : ℕ) → is_live ids a ≡ true → length (neighbours (members_of at dim ids) (named_links at ids) l (name_of at a)) ≡ length (links_at at l a)
     degree l a la =
         degree_same (body_at at) (layers_at at) ids (members_of at dim ids) are_members (λ k. links_at at k) l (most_links m l) (links_at at l) (named_links at ids) (table l)
         (stands_first (body_at at) (layers_at at) ids (members_of at dim ids) are_members (λ k. links_at at k) l (named_links at ids) are_named) a la
