@@ -109,7 +109,7 @@ finished d now start input given outcomes output h g e s ends = record {
     serves = s.serves;
     written = subst
         (λ (b : Bool). MatchBool b (IsPrefix given (with_words ends.0) × (output ++ closing_line input e ≡ replies outcomes))
-            ((given ≡ with_words ends.0) × (output ++ closing_line input e ≡ replies outcomes ++ closing_line input e)))
+        ((given ≡ with_words ends.0) × (output ++ closing_line input e ≡ replies outcomes ++ closing_line input e)))
         (sym s.going) ((sym ends.2, ap (λ (l : Bytes). l ++ closing_line input e) s.written));
   };
   ending = subst (λ (b : Bool). ending_by input e ≡ elim b [ true ↦ session.Quit | false ↦ ending_by input e ]) (sym s.going) refl;
@@ -218,21 +218,21 @@ loses_line d now start input output fault at done lost a kept broken parts some 
       generator = a.generator;
       own = a.so_far.own;
       holds = inr (record {
-          missing = lost;
-          session = record {
-            messages = f.session.messages;
-            ends = f.session.ends;
-            splits = f.session.splits;
-            answered = f.session.answered;
-            outcomes = f.session.outcomes;
-            serves = f.session.serves;
-            written = subst (λ (l : Bytes). MatchBool (quits a.outcomes) (IsPrefix a.given (with_words f.session.messages) × (l ≡ replies a.outcomes))
-                ((a.given ≡ with_words f.session.messages) × (l ≡ replies a.outcomes ++ fault_line (fault_of fault) (place_in input ends.0)))) whole f.session.written;
-          };
-          no_quit = a.so_far.going;
-          some_missing = some;
-          of_closing_line = let l = length-append done lost in let n : length (fault_line (fault_of fault) (place_in input ends.0)) ≡ length (done ++ lost) = ap (λ (b : Bytes). length b) line in omega (arith, l, n);
-        });
+        missing = lost;
+        session = record {
+          messages = f.session.messages;
+          ends = f.session.ends;
+          splits = f.session.splits;
+          answered = f.session.answered;
+          outcomes = f.session.outcomes;
+          serves = f.session.serves;
+          written = subst (λ (l : Bytes). MatchBool (quits a.outcomes) (IsPrefix a.given (with_words f.session.messages) × (l ≡ replies a.outcomes))
+              ((a.given ≡ with_words f.session.messages) × (l ≡ replies a.outcomes ++ fault_line (fault_of fault) (place_in input ends.0)))) whole f.session.written;
+        };
+        no_quit = a.so_far.going;
+        some_missing = some;
+        of_closing_line = let l = length-append done lost in let n : length (fault_line (fault_of fault) (place_in input ends.0)) ≡ length (done ++ lost) = ap (λ (b : Bytes). length b) line in omega (arith, l, n);
+      });
     }
 
 pub length_take_le : (n : ℕ) (xs : Bytes) → n ≤ length xs → length (take n xs) ≡ n

@@ -93,7 +93,7 @@ to_quit d before now start input given outcomes output h i e m o t g n now_is ow
           serves = serves_push start [] given outcomes h i m o t g n.so_far.serves n.so_far.going n.one;
           written = subst
               (λ (b : Bool). MatchBool b (IsPrefix (given ++ m ∷ []) (with_words n.first.0) × (output ++ reply o ≡ replies (outcomes ++ o ∷ [])))
-                  ((given ++ m ∷ [] ≡ with_words n.first.0) × (output ++ reply o ≡ replies (outcomes ++ o ∷ []) ++ closing_line input n.first.1)))
+              ((given ++ m ∷ [] ≡ with_words n.first.0) × (output ++ reply o ≡ replies (outcomes ++ o ∷ []) ++ closing_line input n.first.1)))
               (sym yes) ((n.first.3.0, sym n.first.3.1), more_replies outcomes output o n.so_far.written);
         };
         ending = subst (λ (b : Bool). session.Quit ≡ elim b [ true ↦ session.Quit | false ↦ ending_by input n.first.1 ]) (sym yes) refl;
@@ -110,16 +110,16 @@ loses d before start input given outcomes output h i e m o t g done lost n own p
   generator = g;
   own = own;
   holds = inl (record {
-      missing = lost;
-      begun = begun start input (given ++ m ∷ []) (outcomes ++ o ∷ []) ((output ++ done) ++ lost) t g n.first
-          (serves_push start [] given outcomes h i m o t g n.so_far.serves n.so_far.going n.one)
-          (append_assoc output done lost ∙ ap (λ (l : Bytes). output ++ l) (sym parts) ∙ more_replies outcomes output o n.so_far.written);
-      some_missing = some;
-      of_last_reply =
-          let l = length-append done lost in
-          let whole : length (last_reply (outcomes ++ o ∷ [])) ≡ length (done ++ lost) = ap (λ (r : Bytes). length r) (last_push outcomes o ∙ parts) in
-          omega (arith, l, whole);
-    });
+    missing = lost;
+    begun = begun start input (given ++ m ∷ []) (outcomes ++ o ∷ []) ((output ++ done) ++ lost) t g n.first
+        (serves_push start [] given outcomes h i m o t g n.so_far.serves n.so_far.going n.one)
+        (append_assoc output done lost ∙ ap (λ (l : Bytes). output ++ l) (sym parts) ∙ more_replies outcomes output o n.so_far.written);
+    some_missing = some;
+    of_last_reply =
+        let l = length-append done lost in
+        let whole : length (last_reply (outcomes ++ o ∷ [])) ≡ length (done ++ lost) = ap (λ (r : Bytes). length r) (last_push outcomes o ∙ parts) in
+        omega (arith, l, whole);
+  });
 }
 
 -- ---- a message that is given has a word, and is within the limits

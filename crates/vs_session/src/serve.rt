@@ -1,5 +1,5 @@
 //! A connection, from its first byte to its end.
-ghost use Rattle.std.specs.Prelude.{◌≡◌, ◌<◌, ◌≤◌, ◌++◌, false, ◌⊎◌, List, [],  Some, IfSome, IfOk, length, vec_len};
+ghost use Rattle.std.specs.Prelude.{◌≡◌, ◌<◌, ◌≤◌, ◌++◌, false, ◌⊎◌, List, [], Some, IfSome, IfOk, length, vec_len};
 ghost use Rattle.rand_pcg.specs.Lcg.{Lcg};
 ghost use Rattle.vs_defs.specs.Bytes.{Bytes};
 ghost use Rattle.vs_defs.specs.Stream.{Message};
@@ -20,7 +20,11 @@ use vs_reply::fault_line;
 use vs_resp::{Decoder, Fault, FeedError};
 
 // Answers each message that is ready, until a QUIT or a failed write.
-fn answer_all<H: Handler, K: Sink>(decoder: &mut Decoder, handler: &mut H, sink: &mut K) -> Option<SessionEnd>
+fn answer_all<H: Handler, K: Sink>(
+    decoder: &mut Decoder,
+    handler: &mut H,
+    sink: &mut K,
+) -> Option<SessionEnd>
     requires given { HasGiven decoder.old }
     ensures given { HasGiven decoder.new }
     ensures session { (start : Lcg) (input : Bytes) (given : List Message) (outcomes : List Outcome) (output : Bytes) (h : PlainHistory) (g : Lcg) →
@@ -55,7 +59,13 @@ fn write_fault<K: Sink>(fault: Fault, at: u64, sink: &mut K) -> bool
 }
 
 // Serves a connection through this buffer.
-fn serve_with<H: Handler, S: Source, K: Sink>(alloc: Global, handler: &mut H, buffer: &mut [u8], source: &mut S, sink: &mut K) -> SessionEnd
+fn serve_with<H: Handler, S: Source, K: Sink>(
+    alloc: Global,
+    handler: &mut H,
+    buffer: &mut [u8],
+    source: &mut S,
+    sink: &mut K,
+) -> SessionEnd
     requires some { 0 < length buffer.old }
     requires few { length buffer.old < 65536 }
     ensures session { (g : Lcg) → H.after handler.old [] g → (input : Bytes) × (output : Bytes) × (S.left source.old ≡ in_front input (S.left source.new))
@@ -106,7 +116,12 @@ fn make_room(alloc: Global, size: usize) -> Result<Vec<u8>, NoMemory>
 
 /// Serves one connection by this handler, which stands before its first change. Each message is answered, and its reply written whole,
 /// before the next one is looked at. Reads take at most 16,384 bytes.
-pub fn serve_by<H: Handler, S: Source, K: Sink>(alloc: Global, handler: &mut H, source: &mut S, sink: &mut K) -> SessionEnd
+pub fn serve_by<H: Handler, S: Source, K: Sink>(
+    alloc: Global,
+    handler: &mut H,
+    source: &mut S,
+    sink: &mut K,
+) -> SessionEnd
     ensures session { (g : Lcg) → H.after handler.old [] g → (input : Bytes) × (output : Bytes) × (S.left source.old ≡ in_front input (S.left source.new))
         × Adds (K.written sink.old) output (K.written sink.new) × EndsWith result g input output }
     ensures end { (result ≡ SessionEnd.Ended) ⊎ (result ≡ SessionEnd.CutShort) → NothingLeft (S.left source.new) }

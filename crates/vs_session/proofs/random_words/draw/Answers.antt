@@ -14,7 +14,7 @@ loop-preserved c =
     let more : suc n ≡ n + 1 = omega arith in
     let p = c.push_reserved.ensures in (
       p.items ∙ ap (λ (l : List ℕ). l ++ c.next_word.result ∷ []) i.0 ∙ ap (λ (x : ℕ). drawn n g ++ x ∷ []) (ap (λ (q : ℕ × Lcg). q.0) w ∙ ap (λ (h : Lcg). (pcg32 h).0) i.1)
-      ∙ sym (drawn_push n g) ∙ ap (λ (k : ℕ). drawn k g) more,
+          ∙ sym (drawn_push n g) ∙ ap (λ (k : ℕ). drawn k g) more,
       ap (λ (q : ℕ × Lcg). q.1) w ∙ ap (λ (h : Lcg). (pcg32 h).1) i.1 ∙ sym (after_push n g) ∙ ap (λ (k : ℕ). after_draws k g) more,
       subst (λ (k : ℕ). c.args.count ≤ k) (sym p.capacity) i.2,
       p.len ∙ ap (λ (k : ℕ). k + 1) i.3,

@@ -43,7 +43,7 @@ returns-in-Bye-clause-session g c start input given outcomes output h j s =
       i.0 ++ reply o,
       Adds-trans (g.K.Sink.written c.args.sink.now) (g.K.Sink.written c.loop-message.sink) (g.K.Sink.written c.handle.new.sink) i.0 (reply o) i.1 served.6.1,
       subst (λ (l : Bytes). EndsWith Quit start input l) (append_assoc output i.0 (reply o))
-      (to_quit c.loop-message.decoder (g.H.Handler.after c.loop-message.handler) (g.H.Handler.after c.handle.new.self) start input i.2.0 i.2.1 (output ++ i.0) i.2.2 i.2.3 c.next.new.self m o t k n served.4 served.5 served.6.0),
+          (to_quit c.loop-message.decoder (g.H.Handler.after c.loop-message.handler) (g.H.Handler.after c.handle.new.self) start input i.2.0 i.2.1 (output ++ i.0) i.2.2 i.2.3 c.next.new.self m o t k n served.4 served.5 served.6.0),
     )
 
 pub returns-in-Failed-clause-session : goal.returns-in-Failed-clause-session
@@ -64,7 +64,7 @@ returns-in-Failed-clause-session g c start input given outcomes output h j s =
       i.0 ++ w.0,
       Adds-trans (g.K.Sink.written c.args.sink.now) (g.K.Sink.written c.loop-message.sink) (g.K.Sink.written c.handle.new.sink) i.0 w.0 i.1 w.4,
       subst (λ (l : Bytes). EndsWith WriteFault start input l) (append_assoc output i.0 w.0)
-      (loses c.loop-message.decoder (g.H.Handler.after c.loop-message.handler) start input i.2.0 i.2.1 (output ++ i.0) i.2.2 i.2.3 c.next.new.self m o t k w.0 w.1 n served.5 w.2 w.3),
+          (loses c.loop-message.decoder (g.H.Handler.after c.loop-message.handler) start input i.2.0 i.2.1 (output ++ i.0) i.2.2 i.2.3 c.next.new.self m o t k w.0 w.1 n served.5 w.2 w.3),
     )
 
 pub loop-message-preserved : goal.loop-message-preserved
@@ -84,9 +84,14 @@ loop-message-preserved g c = record {
       } in (
         i.0 ++ reply o,
         Adds-trans (g.K.Sink.written c.args.sink.now) (g.K.Sink.written c.loop-message.sink) (g.K.Sink.written c.handle.new.sink) i.0 (reply o) i.1 served.6.1,
-        (i.2.0 ++ m ∷ [], i.2.1 ++ o ∷ [], t, k,
-        subst (λ (l : Bytes). SoFar c.next.new.self (g.H.Handler.after c.handle.new.self) start input (i.2.0 ++ m ∷ []) (i.2.1 ++ o ∷ []) l t k) (append_assoc output i.0 (reply o))
-        (one_more c.loop-message.decoder (g.H.Handler.after c.loop-message.handler) (g.H.Handler.after c.handle.new.self) start input i.2.0 i.2.1 (output ++ i.0) i.2.2 i.2.3 c.next.new.self m o t k n served.4 served.5 served.6.0)),
+        (
+          i.2.0 ++ m ∷ [],
+          i.2.1 ++ o ∷ [],
+          t,
+          k,
+          subst (λ (l : Bytes). SoFar c.next.new.self (g.H.Handler.after c.handle.new.self) start input (i.2.0 ++ m ∷ []) (i.2.1 ++ o ∷ []) l t k) (append_assoc output i.0 (reply o))
+              (one_more c.loop-message.decoder (g.H.Handler.after c.loop-message.handler) (g.H.Handler.after c.handle.new.self) start input i.2.0 i.2.1 (output ++ i.0) i.2.2 i.2.3 c.next.new.self m o t k n served.4 served.5 served.6.0),
+        ),
       );
   given = let given = c.loop-message.invariant.given in (given.0, given.1 ++ c.in-Some.message ∷ [], c.in-Some.ensures.stands given.0 given.1 given.2);
   failure = c.in-Some.ensures.failure ∙ c.loop-message.invariant.failure;

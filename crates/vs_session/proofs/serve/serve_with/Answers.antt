@@ -36,27 +36,25 @@ returns-in-Failed-clause-session g c first here =
 pub returns-then-at_border-clause-session : goal.returns-then-at_border-clause-session
 returns-then-at_border-clause-session g c first here =
     let i = c.loop-taken.invariant.session first here in
-    let kept : failure c.loop-taken.decoder ≡ Some FeedNoMemory → ⊥ = none_kept (failure c.loop-taken.decoder) i.4.going in
-    (
+    let kept : failure c.loop-taken.decoder ≡ Some FeedNoMemory → ⊥ = none_kept (failure c.loop-taken.decoder) i.4.going in (
       i.0,
       i.1,
       subst (λ o. g.S.Source.left c.args.source.now ≡ in_front i.0 o) (sym c.in-End.ensures.took.0) i.2,
       i.3,
       ends_whole c.loop-taken.decoder (g.H.Handler.after c.loop-taken.handler) first i.0 i.1 i.4
-        ((c.at_border.ensures i.0 i.4.answered.given i.4.answered.so_far.stands kept).0 c.if-at_border.true),
+          ((c.at_border.ensures i.0 i.4.answered.given i.4.answered.so_far.stands kept).0 c.if-at_border.true),
     )
 
 pub returns-in-End-clause-session : goal.returns-in-End-clause-session
 returns-in-End-clause-session g c first here =
     let i = c.loop-taken.invariant.session first here in
-    let kept : failure c.loop-taken.decoder ≡ Some FeedNoMemory → ⊥ = none_kept (failure c.loop-taken.decoder) i.4.going in
-    (
+    let kept : failure c.loop-taken.decoder ≡ Some FeedNoMemory → ⊥ = none_kept (failure c.loop-taken.decoder) i.4.going in (
       i.0,
       i.1,
       subst (λ o. g.S.Source.left c.args.source.now ≡ in_front i.0 o) (sym c.in-End.ensures.took.0) i.2,
       i.3,
       ends_cut c.loop-taken.decoder (g.H.Handler.after c.loop-taken.handler) first i.0 i.1 i.4
-        (λ whole. let yes = (c.at_border.ensures i.0 i.4.answered.given i.4.answered.so_far.stands kept).1 whole in let two : false ≡ true = sym c.if-at_border.false ∙ yes in cc),
+          (λ whole. let yes = (c.at_border.ensures i.0 i.4.answered.given i.4.answered.so_far.stands kept).1 whole in let two : false ≡ true = sym c.if-at_border.false ∙ yes in cc),
     )
 
 pub returns-in-Some-clause-session : goal.returns-in-Some-clause-session
@@ -90,10 +88,14 @@ loop-taken-preserved g c =
           (g.K.Sink.written c.args.sink.now) (g.K.Sink.written c.loop-taken.sink) (g.K.Sink.written c.answer_all.new.sink)
           c.loop-taken.decoder c.feed-fed.new.self c.answer_all.new.decoder (g.H.Handler.after c.loop-taken.handler) (g.H.Handler.after c.answer_all.new.handler) first (take c.in-Bytes.n c.read.new.into) c.loop-taken.taken None
           (c.loop-taken.invariant.session first here) c.in-Bytes.ensures.took.2 c.feed-fed.ensures.stands c.in_default.ensures.session in
-          let means : FeedMeans (s.0 ++ take c.in-Bytes.n c.read.new.into) c.feed-fed.result = c.feed-fed.ensures.means s.0 s.4.answered.given s.4.answered.so_far.stands in
-          (i.0, i.1, i.2, i.3,
+          let means : FeedMeans (s.0 ++ take c.in-Bytes.n c.read.new.into) c.feed-fed.result = c.feed-fed.ensures.means s.0 s.4.answered.given s.4.answered.so_far.stands in (
+            i.0,
+            i.1,
+            i.2,
+            i.3,
             record { answered = i.4; begins = subst (FeedMeans (s.0 ++ take c.in-Bytes.n c.read.new.into)) c.in-Ok.is means; going = c.answer_all.ensures.failure ∙ going },
-            i.5 ∙ ap (λ (n : ℕ). c.loop-taken.taken + n) count);
+            i.5 ∙ ap (λ (n : ℕ). c.loop-taken.taken + n) count,
+          );
       begun = c.in_default.ensures.given;
       going = c.answer_all.ensures.failure ∙ going;
       some = omega arith;
