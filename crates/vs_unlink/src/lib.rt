@@ -6,7 +6,6 @@ mod orphans;
 mod pairs;
 mod removal;
 
-pub use layer::unlink_layer;
 pub use removal::unlink;
 
 /// Two members, the one of lesser name first.

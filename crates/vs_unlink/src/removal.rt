@@ -6,8 +6,9 @@ ghost use Rattle.vs_unlink.specs.Orphans.{Lists};
 ghost use Rattle.vs_graph.specs.Good.{layers_at};
 ghost use Rattle.vs_unlink.specs.Unlinked.{IsOutBelow, IsTakenOut};
 
+use crate::Orphan;
+use crate::layer::unlink_layer;
 use crate::orphans::orphans;
-use crate::{Orphan, unlink_layer};
 use std::alloc::Global;
 use std::sync::ledger::Ledger;
 use vs_graph::{Edit, Node, Nodes, Steps, live_copy};
