@@ -1,0 +1,11 @@
+//! The exact nearest members.
+#![tactic(auto)]
+
+mod candidate;
+mod few;
+mod members;
+mod scan;
+
+pub use candidate::Hit;
+pub use members::Members;
+pub use scan::nearest;
