@@ -52,7 +52,7 @@ in_by t x a b true e = sym (nothing (is_in t a b)) where
   nothing false = refl
 in_by t x a b false e = has_without x b (t a)
 
-is_in_detached : (t : Table) (x a b : ℕ) → is_in (detached t x) a b ≡ (is_in t a b && (not (eqb a x) && not (eqb b x)))
+pub is_in_detached : (t : Table) (x a b : ℕ) → is_in (detached t x) a b ≡ (is_in t a b && (not (eqb a x) && not (eqb b x)))
 is_in_detached t x a b = in_by t x a b (eqb a x) refl
 
 keeps_by : (P : List ℕ → Type 0) (l : List ℕ) (b : Bool) → P [] → P l → P (cond b [] l)

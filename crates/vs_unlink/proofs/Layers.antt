@@ -36,7 +36,7 @@ bare_cleared layer (Some node) = ap (λ links. Some (record node { links = links
 bare_kept : (at new : ℕ → Option Node) (layer : ℕ) (t : Table) → Relinks at new layer t → (id : ℕ) → bare (new id) ≡ bare (at id)
 bare_kept at new layer t r id = sym (bare_cleared layer (new id)) ∙ ap bare (r.rest id) ∙ bare_cleared layer (at id)
 
-body_bare : (o : Option Node) → option_map (λ node. node.body) (bare o) ≡ option_map (λ node. node.body) o
+pub body_bare : (o : Option Node) → option_map (λ node. node.body) (bare o) ≡ option_map (λ node. node.body) o
 body_bare None = refl
 body_bare (Some node) = refl
 
@@ -104,7 +104,7 @@ paired_apart : (x : ℕ) (ps : List Pair) (u : Table) → ((p : Pair) → In p p
 paired_apart x [] u h = refl
 paired_apart x (p ∷ ps) u h = paired_apart x ps (joined u p.one p.other) (λ q k. h q (inr k)) ∙ same_list u p x (h p (inl refl))
 
-no_layers : (l : ℕ) (o : Option Node) → option_map_or (λ node. length node.links) o 0 ≤ l → option_map_or (λ node. links_of node l) o [] ≡ []
+pub no_layers : (l : ℕ) (o : Option Node) → option_map_or (λ node. length node.links) o 0 ≤ l → option_map_or (λ node. links_of node l) o [] ≡ []
 no_layers l None h = refl
 no_layers l (Some node) h = ap (λ o. unwrap_or o []) (slice_get_past node.links l h)
 

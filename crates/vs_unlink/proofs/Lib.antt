@@ -6,3 +6,4 @@ pub mod Paired
 pub mod Taking
 pub mod Layers
 pub mod Listing
+pub mod Bynames

@@ -75,7 +75,7 @@ fn join_all<N: Nodes, L: Ledger>(
 }
 
 /// Takes `x` out at a layer: its links go, and its former neighbours, which are answered, are paired.
-pub fn unlink_layer<N: Nodes, L: Ledger>(
+pub(crate) fn unlink_layer<N: Nodes, L: Ledger>(
     alloc: Global,
     edit: &mut Edit,
     base: &N,

@@ -1,12 +1,13 @@
 //! How a member is taken out of the graph: its links go, its former neighbours are paired, and those left without a link are listed.
 #![tactic(auto)]
 
+mod laws;
 mod layer;
 mod orphans;
 mod pairs;
 mod removal;
 
-pub use layer::unlink_layer;
+pub use laws::unlinking_by_ids_is_unlinking_by_names;
 pub use removal::unlink;
 
 /// Two members, the one of lesser name first.

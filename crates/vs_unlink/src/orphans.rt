@@ -46,20 +46,20 @@ fn alone_of<'a, N: Nodes, L: Ledger>(
     Ok(alone)
 }
 
-/// Puts the orphans of a layer last.
+/// Puts the orphans of a layer, former neighbours of a node, last.
 fn list_layer<N: Nodes, L: Ledger>(
     alloc: Global,
     orphans: &mut List<Orphan>,
     edit: &Edit,
     base: &N,
-    ids: &[u32],
+    former: &Node,
     layer: u8,
     reads: &mut Steps<L>,
 ) -> Result<(), NoMemory>
-    requires { All (λ id. IsSome (overwritten edit.now (N.at base.now) id)) ids.now }
-    ensures { OnOk result ((alone : Items ℕ) × AreAlone (body_at (overwritten edit.now (N.at base.now))) (links_at (overwritten edit.now (N.at base.now)) layer) ids.now alone × (orphans.new ≡ orphans.old ++ at_layer layer alone)) }
+    requires { All (λ id. IsSome (overwritten edit.now (N.at base.now) id)) (links_of former.now layer) }
+    ensures { OnOk result ((alone : Items ℕ) × AreAlone (body_at (overwritten edit.now (N.at base.now))) (links_at (overwritten edit.now (N.at base.now)) layer) (links_of former.now layer) alone × (orphans.new ≡ orphans.old ++ at_layer layer alone)) }
 {
-    let mut alone = alone_of(alloc, edit, base, ids, layer, reads)?;
+    let mut alone = alone_of(alloc, edit, base, links(former, layer), layer, reads)?;
     alone.sort()?;
     for one in &alone {
         orphans.push(Orphan { layer, id: one.id })?;
@@ -83,15 +83,7 @@ pub(crate) fn orphans<N: Nodes, L: Ledger>(
     let mut layer = count;
     while layer > 0 {
         layer -= 1;
-        list_layer(
-            alloc,
-            &mut all,
-            edit,
-            base,
-            links(former, layer),
-            layer,
-            reads,
-        )?;
+        list_layer(alloc, &mut all, edit, base, former, layer, reads)?;
     }
     Ok(all)
 }

@@ -6,8 +6,9 @@ ghost use Rattle.vs_unlink.specs.Orphans.{Lists};
 ghost use Rattle.vs_graph.specs.Good.{layers_at};
 ghost use Rattle.vs_unlink.specs.Unlinked.{IsOutBelow, IsTakenOut};
 
+use crate::Orphan;
+use crate::layer::unlink_layer;
 use crate::orphans::orphans;
-use crate::{Orphan, unlink_layer};
 use std::alloc::Global;
 use std::sync::ledger::Ledger;
 use vs_graph::{Edit, Node, Nodes, Steps, live_copy};
@@ -52,7 +53,9 @@ fn take_out<N: Nodes, L: Ledger>(
     Ok(own)
 }
 
-/// Takes a member out of the graph, pairs its former neighbours, and lists those left without a link.
+/// Takes a member out of the graph, joins the unlinked pairs of its former neighbours at each layer, nearest first, and
+/// lists those left without a link there, by layer descending, then name. One that is now alone at its layer is listed too.
+/// After a refusal the edit is to be dropped; the base is unchanged.
 pub fn unlink<N: Nodes, L: Ledger>(
     alloc: Global,
     edit: &mut Edit,
