@@ -1,7 +1,8 @@
 -- Options behind a request's first words, one at a time.
 --     value words at                       the word behind the option at a place, which has to stand there
 --     taken option at words                what an option at a place makes of the options, and the place behind it and its value
---     is_without_filter, AreAddOptionsInBounds, AreSimOptionsInBounds
+--     AreAddOptionsInBounds o              what VADD's options may say; AreSimOptionsInBounds o the same of VSIM
+--     is_without_filter request            it is no search with a filter
 use Rattle.std.specs.Prelude.{ℕ, ◌+◌, Bool, true, cond, nat_lt, List, IfSome, Ok, Err, length, is_none}
 use Rattle.vs_defs.specs.Bytes.{Bytes}
 use Rattle.vs_defs.specs.Bounds.{IsFrom, IsAttributeInBounds}

@@ -18,3 +18,6 @@ pub use read::read_request;
 pub use refusal::Refusal;
 pub use request::{Request, Search, What};
 pub use vs_bits::Add;
+
+#[cfg(test)]
+mod tests;
