@@ -1,3 +1,7 @@
 pub mod Answers
 pub mod Refusals
 pub mod Outcomes
+pub mod Requests
+pub mod Readings
+pub mod Words
+pub mod Options

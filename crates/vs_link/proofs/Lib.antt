@@ -3,3 +3,7 @@ pub mod Offered
 pub mod Targets
 pub mod Turns
 pub mod Wholes
+pub mod Extremes
+pub mod Joined
+pub mod Chosen
+pub mod Bynames

@@ -1,3 +1,4 @@
 pub mod Picks
 pub mod Scan
 pub mod Linked
+pub mod Selected

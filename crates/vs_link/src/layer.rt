@@ -1,5 +1,8 @@
-ghost use Rattle.std.specs.Prelude.{◌≡◌, ◌≢◌, ◌<◌, ◌≤◌, ◌+◌, ◌*◌, ℕ, [], Some, None, OnOk, length};
+ghost use Rattle.std.specs.Prelude.{◌≡◌, ◌≢◌, ◌<◌, ◌≤◌, ◌+◌, ◌*◌, ℕ, [], Some, None, OnOk, List, length, map, option_map};
+ghost use Rattle.vs_defs.specs.Insertion.{SameLinks};
+ghost use Rattle.vs_defs.specs.Linking as defs;
 ghost use Rattle.vs_graph.specs.Edits.{overwritten};
+ghost use Rattle.vs_graph.specs.Standing.{AreIds, members_of, name_of, named_links};
 ghost use Rattle.vs_graph.specs.Good.{links_at, most_links, StandsAt, AreLinksGood, body_at, layers_at};
 ghost use Rattle.vs_graph.specs.Bodies.{AreAlike};
 ghost use Rattle.vs_graph.specs.GoodTable.{IsGoodTable, KeepsLinked};
@@ -91,6 +94,10 @@ pub fn link_layer<N: Nodes, L: Ledger>(
     requires fallback { chosen.now ≡ [] → IsFallback (layers_at (overwritten edit.old (N.at base.now))) layer x fallback }
     ensures links { OnOk result (Relinks (overwritten edit.old (N.at base.now)) (overwritten edit.new (N.at base.now)) layer
         (linked (body_at (overwritten edit.old (N.at base.now))) (most_links m layer) (links_at (overwritten edit.old (N.at base.now)) layer) x chosen.now fallback)) }
+    ensures named { OnOk result ((dim : ℕ) (ids : List ℕ) → AreLinksGood (overwritten edit.old (N.at base.now)) m dim → AreIds (overwritten edit.old (N.at base.now)) ids
+        → SameLinks (named_links (overwritten edit.new (N.at base.now)) ids)
+        (defs.linked m (members_of (overwritten edit.old (N.at base.now)) dim ids) (named_links (overwritten edit.old (N.at base.now)) ids) (name_of (overwritten edit.old (N.at base.now)) x) layer
+        (map (name_of (overwritten edit.old (N.at base.now))) chosen.now) (option_map (name_of (overwritten edit.old (N.at base.now))) fallback))) }
     ensures good { OnOk result ((dim : ℕ) → AreLinksGood (overwritten edit.old (N.at base.now)) m dim → AreLinksGood (overwritten edit.new (N.at base.now)) m dim) }
     ensures kept { OnOk result (KeepsLinked (links_at (overwritten edit.old (N.at base.now)) layer) (links_at (overwritten edit.new (N.at base.now)) layer)) }
     ensures own { OnOk result ((y : ℕ) → y ≢ x → StandsAt (overwritten edit.old (N.at base.now)) layer y → 0 < length (links_at (overwritten edit.new (N.at base.now)) layer x)) }

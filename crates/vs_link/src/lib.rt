@@ -2,8 +2,10 @@
 #![tactic(auto)]
 
 mod changes;
+mod choice;
 mod layer;
 mod offers;
 mod scan;
 
+pub use choice::select;
 pub use layer::link_layer;

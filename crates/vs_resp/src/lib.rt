@@ -13,24 +13,38 @@ ghost use Rattle.std.specs.Option.{option_to_list};
 use std::alloc::Global;
 use std::collections::VecDeque;
 use std::mem;
+
+#[cfg(test)]
+mod tests;
+
 use vs_outside::{List, Text};
 
-/// What is wrong with a stream.
+/// What is wrong with a stream, by the byte at which it ceases to begin a stream. The grammar is that of RESP; the limits
+/// and the digits of a number, 1 to 7, are this project's.
 #[derive(Clone, Copy, Debug, PartialEq, Eq)]
 pub enum Fault {
+    /// A byte that a count's line doesn't allow.
     BadCount,
+    /// The digit by which a count passes 65,536.
     CountTooLarge,
+    /// A byte other than `$` where a bulk begins.
     ExpectedBulk,
+    /// A byte that a length's line doesn't allow.
     BadLength,
+    /// The digit by which a length passes 65,536.
     LengthTooLarge,
+    /// The digit by which the lengths of one message pass 4,194,304 together.
     MessageTooLarge,
+    /// A byte behind a bulk's own that isn't of its line end.
     BadEnd,
+    /// The byte behind 65,536 bytes of an inline line, if it isn't the line feed.
     InlineTooLong,
 }
 
 #[derive(Clone, Copy, Debug, PartialEq, Eq)]
 pub enum FeedError {
     NoMemory,
+    /// `at` is the place of the byte, counted from 0, from the connection's first byte on.
     Protocol { fault: Fault, at: u64 },
 }
 
@@ -53,6 +67,11 @@ enum Stage {
     Lost,
 }
 
+/// The messages of one connection's bytes: arrays of bulks, and inline lines. Each byte is looked at once, and a word's
+/// bytes are copied once, into the `Text` that is handed out. Messages without a word are skipped.
+///
+/// After a fault each later feed answers the same, and the messages before it still come. After want of memory each later
+/// feed answers that, and the messages that still come are the next of those that were fed.
 #[derive(Drop)]
 pub struct Decoder {
     alloc: Global,
@@ -474,7 +493,7 @@ impl Decoder {
         }
     }
 
-    /// Takes the next piece of the stream.
+    /// Takes the next piece of the stream; how the bytes are cut into pieces makes no difference.
     pub fn feed(&mut self, piece: &[u8]) -> Result<(), FeedError>
         requires room { bytes_taken self.old + length piece.now < 2 ^ 63 }
         ensures stands { (fed : Bytes) (given : List Message) → Stands self.old fed given → Stands self.new (fed ++ piece.now) given }
@@ -505,7 +524,7 @@ impl Decoder {
         }
     }
 
-    /// The next message that has a word.
+    /// The next message that has a word, of those that were fed whole. It takes no memory.
     pub fn next(&mut self) -> Option<List<Text>>
         ensures stands { (fed : Bytes) (given : List Message) → Stands self.old fed given → Stands self.new fed (given ++ option_to_list result) }
         ensures first { (fed : Bytes) (given : List Message) → Stands self.old fed given → GivenFirst true fed (given ++ option_to_list result) }
@@ -517,7 +536,7 @@ impl Decoder {
         self.ready.pop_front()
     }
 
-    /// Whether all that was fed is whole messages.
+    /// Whether all that was fed is whole messages. It takes no memory.
     pub fn at_border(&self) -> bool
         ensures { (fed : Bytes) (given : List Message) → Stands self.now fed given → (failure self.now ≡ Some FeedError.NoMemory → ⊥) → IsTrue result ↔ IsStream true fed }
     {

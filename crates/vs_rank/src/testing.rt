@@ -1,0 +1,24 @@
+ghost use Rattle.std.specs.Prelude.{Bool};
+ghost use Rattle.std.specs.Option.{option_copied};
+ghost use Rattle.vs_rank.specs.Tests.{Attribute, GivesAt};
+
+/// A test of attributes; each closure over an attribute, present or absent, is one.
+pub trait Testing {
+    ghost ready: { Self → Type 0 };
+
+    ghost gives: { Self → Attribute → Bool → Type 0 };
+
+    fn test(&self, attr: Option<&[u8]>) -> bool
+        requires { ready self.now }
+        ensures { gives self.now (option_copied attr.entry) result };
+}
+
+impl<F: Fn(Option<&[u8]>) -> bool> Testing for F {
+    ghost ready = { λ f. F.IsAlwaysCallable f };
+
+    ghost gives = { λ f. GivesAt (F.post f) };
+
+    fn test(&self, attr: Option<&[u8]>) -> bool {
+        self(attr)
+    }
+}
