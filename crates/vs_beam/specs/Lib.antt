@@ -1,2 +1,3 @@
 pub mod Beam
 pub mod Searching
+pub mod Named

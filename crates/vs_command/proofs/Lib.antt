@@ -1,1 +1,5 @@
 pub mod Shuffles
+pub mod Words
+pub mod Steps
+pub mod OptionSteps
+pub mod Stages

@@ -1,4 +1,7 @@
 //! Why a request is refused.
+ghost use Rattle.std.specs.Prelude.{◌≡◌};
+
+use vs_outside::NoMemory;
 
 /// A cause of refusal, or want of memory.
 ///
@@ -40,4 +43,14 @@ pub enum Refusal {
     FullAll { members: u32 },
     ChangeLimit { changes: u64 },
     NoMemory,
+}
+
+impl From<NoMemory> for Refusal {
+    ghost use Rattle.vs_command.specs.declared.refusal.Refusal.TheVariants.{NoMemory as OutOfMemory};
+
+    ghost from_gives = { λ _ e. e ≡ OutOfMemory };
+
+    fn from(_error: NoMemory) -> Refusal {
+        Refusal::NoMemory
+    }
 }

@@ -4,6 +4,9 @@
 ghost use Rattle.std.specs.Prelude.{◌≡◌, ◌≤◌, length};
 ghost use Rattle.vs_defs.specs.Words.{words_ham};
 
+#[cfg(test)]
+mod tests;
+
 /// How many places of `a` and `b` differ, at most 32,768. Two vectors of one dimension have equal
 /// unused places, so the number is that of their differing components.
 pub fn distance(a: &[u64], b: &[u64]) -> u32

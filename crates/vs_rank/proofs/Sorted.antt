@@ -7,8 +7,11 @@ use Rattle.std.proofs.Math.Seq.{take-append_seam, get_or-append_seam}
 use Rattle.std.proofs.lemmas.Option.{slice_get-get_or}
 use Rattle.std.specs.List.{AllByRecursion}
 use Rattle.std.specs.List.Sorted.{IsPermutation, IsSortedBy}
-use Rattle.std.specs.Ordering.{is_gt, is_lt}
+use Rattle.std.specs.Ordering.{is_gt, is_lt, ordering_reverse}
 use Rattle.std.specs.declared.cmp.Ordering.{Ordering}
+use Rattle.std.specs.declared.cmp.Ordering.TheVariants.{Less, Equal, Greater}
+use Rattle.std.specs.Cmp.{IsTotalOrder}
+use Rattle.std.proofs.lemmas.Cmp.{upto}
 use Rattle.std.proofs.lemmas.Bool.{cases_Bool}
 use Rattle.std.proofs.lemmas.List.{take-take, take_more}
 use Rattle.std.proofs.lemmas.List.Sums.{sum_by-cons}
@@ -41,6 +44,30 @@ and_right false b h = absurd (not_both false h refl)
 and_false : (a : Bool) → (a && false) ≡ false
 and_false true = refl
 and_false false = refl
+
+one_way_case : (r s : Ordering) → r ≡ ordering_reverse s → is_gt r ≡ true → is_gt s ≡ false
+one_way_case r Less e p = refl
+one_way_case r Equal e p = refl
+one_way_case r Greater e p = absurd (not_both (is_gt r) p (ap is_gt e))
+
+lt_turned : (s : Ordering) → is_lt (ordering_reverse s) ≡ is_gt s
+lt_turned Less = refl
+lt_turned Equal = refl
+lt_turned Greater = refl
+
+equal_case : (r s : Ordering) → r ≡ ordering_reverse s → is_gt r ≡ false → is_gt s ≡ false → r ≡ Equal
+equal_case r Less e p q = absurd (not_both (is_gt r) (ap is_gt e) p)
+equal_case r Equal e p q = e
+equal_case r Greater e p q = absurd (not_both true refl q)
+
+-- an order of the library's, where what compares equal is equal
+pub order_of : {X : Type 0} (cmp : X → X → Ordering) → IsTotalOrder cmp → ((x y : X) → cmp x y ≡ Equal → x ≡ y) → IsOrder cmp
+order_of cmp o exact = record {
+  one_way = λ x y p. one_way_case (cmp x y) (cmp y x) (o.antisymm x y) p;
+  chain = λ x y z p q. upto o x y z p q;
+  turned = λ x y. ap is_lt (o.antisymm x y) ∙ lt_turned (cmp y x);
+  one = λ x y p q. exact x y (equal_case (cmp x y) (cmp y x) (o.antisymm x y) p q);
+}
 
 module _ {X : Type 0} (cmp : X → X → Ordering) where
   -- whether x > y

@@ -5,6 +5,8 @@
 mod best;
 mod frontier;
 mod testing;
+#[cfg(test)]
+mod tests;
 mod wanted;
 
 pub use best::Best;

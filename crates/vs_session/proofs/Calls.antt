@@ -10,7 +10,8 @@ use Rattle.vs_defs.specs.History as history
 use Rattle.vs_defs.specs.History.{History, Entry, own, store_after}
 use Rattle.vs_defs.specs.PlainMachine.{PlainHistory, PlainFollows, PlainAnswers, PlainChanges, PlainDoes}
 use Rattle.vs_defs.specs.PlainStep.{PlainStep}
-use Rattle.vs_session.specs.Stage.{Call, Legal, store_at}
+use Rattle.vs_session.specs.Stage.{Call, Legal}
+use Rattle.vs_session.specs.Stored.{Stored}
 
 pub legal_push : (before h : PlainHistory) (e : Entry PlainStore) → history.LegalAfter (PlainFollows usual_limits) before h → PlainFollows usual_limits (before ++ h) e
     → history.LegalAfter (PlainFollows usual_limits) before (h ++ e ∷ [])
@@ -29,12 +30,6 @@ own_push (d ∷ h) e is = elim (d.author == 0) as (λ b. cond b (d ∷ own 0 (h 
   | false ↦ own_push h e is
 ]
 
--- The store is that of a legal history of one author's changes.
-pub record Stored (store : PlainStore) (h : PlainHistory) : Type 0 where
-  pub legal : Legal h
-  pub store_is : store_at h ≡ store
-  pub by_one : own 0 h ≡ h
-
 -- a call, and the history after it
 abbrev pub Calls : PlainHistory → Request → List ℕ → Outcome → PlainStore → Type 0
 Calls s r words o new = (t : PlainHistory) × Call 0 s r words o t × Stored new t
@@ -51,19 +46,19 @@ changes old new h r words a s b c =
       step = subst (λ (x : PlainStore). PlainStep x r words a new) (sym s.store_is) c.step;
       no_draft = refl;
     } in
-    let legal : Legal (h ++ e ∷ []) = legal_push [] h e s.legal follows in (
+    let legal : Legal (h ++ e ∷ []) = legal_push [] h e s.own.legal follows in (
       h ++ e ∷ [],
       record {
         goes_on = (e ∷ [], refl);
-        legal_before = s.legal;
+        legal_before = s.own.legal;
         legal = legal;
         outcome_is = inl (record { before = h; last = e; is_last = refl; author = refl; request = refl; drawn = refl; answer = refl; draft = tt; others = refl });
       },
-      record { legal = legal; store_is = store_push (empty_store usual_limits) h e; by_one = own_push h e refl ∙ ap (λ (l : PlainHistory). l ++ e ∷ []) s.by_one },
+      record { own = record { legal = legal; by_one = own_push h e refl ∙ ap (λ (l : PlainHistory). l ++ e ∷ []) s.own.by_one }; store_is = store_push (empty_store usual_limits) h e },
     )
 
 stays : (old new : PlainStore) (h : PlainHistory) → new ≡ old → Stored old h → Stored new h
-stays old new h same s = record { legal = s.legal; store_is = s.store_is ∙ sym same; by_one = s.by_one }
+stays old new h same s = record { own = s.own; store_is = s.store_is ∙ sym same }
 
 pub calls : (old new : PlainStore) (h : PlainHistory) (r : Request) (words : List ℕ) (o : Outcome) → Stored old h → IsInBounds r → PlainDoes old r words o new → Calls h r words o new
 calls old new h r words (outcome.Answered a) s b (inl c) = changes old new h r words a s b c
@@ -71,8 +66,8 @@ calls old new h r words (outcome.Answered a) s b (inr (same, answers)) = (
   h,
   record {
     goes_on = ([], append-nil h);
-    legal_before = s.legal;
-    legal = s.legal;
+    legal_before = s.own.legal;
+    legal = s.own.legal;
     outcome_is = inr (refl, subst (λ (x : PlainStore). PlainAnswers x r words a) (sym s.store_is) answers);
   },
   stays old new h same s,
@@ -81,11 +76,11 @@ calls old new h r words (outcome.Refused e) s b (same, refused) = (
   h,
   record {
     goes_on = ([], append-nil h);
-    legal_before = s.legal;
-    legal = s.legal;
+    legal_before = s.own.legal;
+    legal = s.own.legal;
     outcome_is = (refl, subst (λ (x : PlainStore). store_refusal x r ≡ Some e) (sym s.store_is) refused);
   },
   stays old new h same s,
 )
 calls old new h r words outcome.OutOfMemory s b same =
-    (h, record { goes_on = ([], append-nil h); legal_before = s.legal; legal = s.legal; outcome_is = refl }, stays old new h same s)
+    (h, record { goes_on = ([], append-nil h); legal_before = s.own.legal; legal = s.own.legal; outcome_is = refl }, stays old new h same s)

@@ -1,2 +1,13 @@
-//! One connection: requests in, replies out, over one store.
+//! One connection: requests in, replies out, by whatever handles its messages.
 #![tactic(auto)]
+
+mod end;
+mod handler;
+mod random_words;
+mod serve;
+mod write;
+
+pub use end::SessionEnd;
+pub use handler::{Handler, Replied};
+pub use random_words::{draw, generator};
+pub use serve::serve_by;

@@ -1,0 +1,4 @@
+pub mod Reading
+pub mod Seen
+pub mod Listed
+pub mod Fields

@@ -1,0 +1,78 @@
+ghost use Rattle.std.specs.Prelude.{◌≡◌, ◌+◌, ◌≤◌, Bool, Option, length, map, take, All, IfOk};
+ghost use Rattle.vs_defs.specs.Bytes.{Bytes, sort_by};
+ghost use Rattle.vs_defs.specs.FilterText.{passes_filter};
+ghost use Rattle.vs_defs.specs.Truth as truth;
+ghost use Rattle.vs_rank.specs.Tests.{Attribute, Answers};
+ghost use Rattle.vs_truth.specs.Nearest.{AreHits, nearest_passing};
+ghost use Rattle.vs_truth.specs.Nears.{near_cmp, nears_of, candidate_hit};
+
+use crate::candidate::Candidate;
+use crate::few::Few;
+use crate::{Hit, Members};
+use std::alloc::{AllocError, Global};
+use std::sync::ledger::Ledger;
+use vs_bits::Bits;
+use vs_graph::Steps;
+use vs_hamming::distance;
+use vs_outside::{List, NoMemory};
+use vs_rank::{Testing, Wanted};
+
+/// The first `most` of the members that pass.
+fn first_passing<'a, M: Members, F: Testing, L: Ledger>(
+    alloc: Global,
+    members: &'a M,
+    query: &Bits,
+    most: u32,
+    wanted: &Wanted<F>,
+    reads: &mut Steps<L>,
+) -> Result<Few<'a>, AllocError>
+    requires fits { All (λ member. length member.bits ≡ length query.now) (M.members members.now) }
+    ensures nears { IfOk result (λ few. (passes : Attribute → Bool) → Answers (F.gives wanted.now.test) passes → few.nears ≡ take most (sort_by near_cmp (nears_of passes query.now (M.members members.entry.now)))) }
+    ensures told { reads.new ≤ reads.old + length (M.members members.entry.now) }
+{
+    let words = query.words();
+    let mut few = Few::new(alloc, most)?;
+    for place in 0..members.count() {
+        if wanted.passes(members.attr(place)) {
+            few.offer(Candidate {
+                dist: distance(words, members.bits(place, reads)),
+                name: members.name(place),
+                place,
+            });
+        }
+    }
+    Ok(few)
+}
+
+fn hits_of(alloc: Global, found: &[Candidate]) -> Result<Vec<Hit>, AllocError>
+    ensures { IfOk result (λ hits. hits.items ≡ map candidate_hit found.now) }
+{
+    found
+        .iter()
+        .map(|candidate| Hit {
+            place: candidate.place,
+            dist: candidate.dist,
+        })
+        .collect(alloc)
+}
+
+/// The first `count` of the members that pass, by distance, then name: one scan, with a heap of at
+/// most `count` entries. Members of one name, if there are any, keep their order.
+pub fn nearest<M: Members, F: Testing, L: Ledger>(
+    alloc: Global,
+    members: &M,
+    query: &Bits,
+    count: u32,
+    wanted: &Wanted<F>,
+    reads: &mut Steps<L>,
+) -> Result<List<Hit>, NoMemory>
+    requires fits { All (λ member. length member.bits ≡ length query.now) (M.members members.now) }
+    ensures hits { IfOk result (λ hits. (passes : Attribute → Bool) → Answers (F.gives wanted.now.test) passes → AreHits query.now (M.members members.now) (nearest_passing passes count query.now (M.members members.now)) hits) }
+    ensures filter { IfOk result (λ hits. (text : Option Bytes) → Answers (F.gives wanted.now.test) (passes_filter text) → AreHits query.now (M.members members.now) (truth.nearest count query.now text (M.members members.now)) hits) }
+    ensures told { reads.new ≤ reads.old + length (M.members members.now) }
+{
+    let most = count.min(members.count());
+    let few = first_passing(alloc, members, query, most, wanted, reads)?;
+    let hits = hits_of(alloc, few.into_sorted().as_slice())?;
+    Ok(List::from_vec(hits))
+}

@@ -1,0 +1,9 @@
+pub mod Standing
+pub mod Steps
+pub mod Pairing
+pub mod Detached
+pub mod Paired
+pub mod Taking
+pub mod Layers
+pub mod Listing
+pub mod Bynames

@@ -1,0 +1,29 @@
+use Rattle.std.proofs.Common.{◌≡◌, ℕ, sym, ap, ◌∙◌, subst, length}
+use Rattle.std.proofs.Math.Path.{fun_ext}
+use Rattle.std.specs.Option.{option_map_or}
+use Rattle.std.proofs.lemmas.Result.{IfOk-weaker}
+use Rattle.vs_graph.specs.Edits.{overwritten}
+use Rattle.vs_graph.specs.Good.{links_at, links_of}
+use Rattle.vs_graph.specs.Good.{body_at}
+use Rattle.vs_graph.specs.Good.{layers_at}
+use Rattle.vs_graph.proofs.Relinking.{links_there}
+use Rattle.vs_unlink.specs.Orphans.{Lists}
+use Rattle.vs_unlink.proofs.Listing.{former_live}
+use Rattle.vs_unlink.proofs.removal.unlink.Goals as goal
+
+pub orphans-requires : goal.orphans-requires
+orphans-requires g c =
+    let base = g.N.Nodes.at c.args.base.now in
+    former_live (overwritten c.args.edit.now base) (overwritten c.take_out.new.edit base) c.args.x c.requires.good.0 c.requires.good.1 c.in_ok-own.own c.in_ok-own.ensures.was c.requires.good.3 c.in_ok-own.ensures.out
+
+pub returns-clause-orphans : goal.returns-clause-orphans
+returns-clause-orphans g c =
+    let base = g.N.Nodes.at c.args.base.now in
+    let at = overwritten c.args.edit.now base in
+    let new = overwritten c.take_out.new.edit base in
+    let former : links_of c.in_ok-own.own ≡ (λ (l : ℕ). links_at at l c.args.x) = fun_ext (λ l. sym (links_there at l c.args.x c.in_ok-own.own c.in_ok-own.ensures.was)) in
+    let count : c.len-count.result ≡ layers_at at c.args.x = c.len-count.ensures ∙ sym (ap (λ o. option_map_or (λ node. length node.links) o 0) c.in_ok-own.ensures.was) in
+    IfOk-weaker c.orphans.result _ _
+    (λ all h.
+    subst (λ n. Lists (body_at new) (links_at new) (λ (l : ℕ). links_at at l c.args.x) n 0 all) count
+    (subst (λ f. Lists (body_at new) (links_at new) f c.len-count.result 0 all) former h)) c.orphans.ensures

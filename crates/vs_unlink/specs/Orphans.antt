@@ -1,0 +1,21 @@
+-- Members that a removal leaves without a link, layer by layer.
+use Rattle.std.specs.Prelude.{ℕ, ◌+◌, ◌==◌, List, [], ◌++◌, map, filter, length}
+use Rattle.std.specs.List.Sorted.{IsPermutation, IsSorted}
+use Rattle.std.specs.Ordering.{nat_cmp}
+use Rattle.std.specs.Cmp.Lexicographic.{slice_cmp}
+use Rattle.vs_graph.specs.Bodies.{Bodies, name_at}
+use Rattle.vs_graph.specs.Table.{Table}
+use Rattle.vs_unlink.specs.declared.Orphan.{Orphan}
+
+-- those of the former neighbours that have no link, by name
+pub record AreAlone (bodies : Bodies) (t : Table) (former ids : List ℕ) : Type 0 where
+  pub same : IsPermutation (filter (λ y. length (t y) == 0) former) ids
+  pub sorted : IsSorted (λ a b. slice_cmp nat_cmp (name_at bodies a) (name_at bodies b)) ids
+
+abbrev pub at_layer : ℕ → List ℕ → List Orphan
+at_layer layer ids = map (λ y. record { layer = layer; id = y }) ids
+
+-- the orphans of the layers below `count` down to one
+pub data Lists (bodies : Bodies) (tables : ℕ → Table) (former : ℕ → List ℕ) (count : ℕ) : ℕ → List Orphan → Type 0 where
+  none : Lists bodies tables former count count []
+  next : (n : ℕ) (os : List Orphan) (ids : List ℕ) → Lists bodies tables former count (n + 1) os → AreAlone bodies (tables n) (former n) ids → Lists bodies tables former count n (os ++ at_layer n ids)
