@@ -1,5 +1,5 @@
 -- Facts on digits and on the numbers that they spell.
-use Rattle.std.proofs.Common.{◌≡◌, ℕ, zero, suc, ◌+◌, ◌-◌, ◌*◌, ◌<◌, ◌≤◌, ◌++◌, true, false, cond, nat_le, Option, Some, None, ◌^◌, List, [], ◌∷◌, length, get_or, take, drop, refl, ap, sym, ◌∙◌, arith, add-one}
+use Rattle.std.proofs.Common.{◌≡◌, ℕ, ◌+◌, ◌-◌, ◌*◌, ◌<◌, ◌≤◌, true, false, cond, nat_le, Option, Some, None, ◌^◌, List, [], ◌∷◌, length, get_or, take, drop, refl, ap, sym, ◌∙◌, arith, add-one}
 use Rattle.std.specs.List.{list_all, fold}
 use Rattle.std.specs.Char.{is_ascii_digit}
 use Rattle.std.proofs.Math.Seq.{drop-cons}
@@ -29,7 +29,7 @@ pub exceeds : (xs : List ℕ) (i : ℕ) → i < length xs → number_of (take i 
 exceeds xs i h =
     let rest : drop i xs ≡ get_or xs i 0 ∷ drop (i + 1) xs = rw (add-one) (drop-cons xs i 0 h) in
     let parts : number_of xs ≡ fold next (number_of (take i xs)) (drop i xs) =
-        ap number_of (sym (take-append-drop i xs)) ∙ fold-append next 0 (take i xs) (drop i xs) in
+    ap number_of (sym (take-append-drop i xs)) ∙ fold-append next 0 (take i xs) (drop i xs) in
     let more : number_of xs ≡ fold next (next (number_of (take i xs)) (get_or xs i 0)) (drop (i + 1) xs) = rw rest at parts in
     let least = grows (drop (i + 1) xs) (next (number_of (take i xs)) (get_or xs i 0)) in
     omega arith

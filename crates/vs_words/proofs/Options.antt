@@ -132,7 +132,7 @@ joined_found word xs i x e is =
     (sym (within word (seen xs)) ∙ at.0 ∙ ap (λ y. Some (choice_of y)) (sym is), sym (ap (λ y. without_choice (choice_of y) (seen xs)) is ∙ at.1))
 
 -- words are plain where what stands behind a command names options of it
-is_some_map : {A B : Type 0} (f : A → B) (o : Option A) → is_some (option_map f o) ≡ is_some o
+pub is_some_map : {A B : Type 0} (f : A → B) (o : Option A) → is_some (option_map f o) ≡ is_some o
 is_some_map f None = refl
 is_some_map f (Some a) = refl
 

@@ -1,8 +1,8 @@
 -- The program's words, of the commands that are built.
 --     built                    their names: a command that is built later is added here
 --     job_named words          the job that plain words name; None where the words aren't plain
---     IsReading words r        what is read of the words
-use Rattle.std.specs.Prelude.{◌≡◌, Bool, true, List, [], ◌∷◌, ◌++◌, Option, Some, None, is_some, map, codes, Result, Ok, Err, cond, drop, length}
+--     are_plain words          whether they are plain
+use Rattle.std.specs.Prelude.{◌≡◌, Bool, List, [], ◌∷◌, ◌++◌, Option, Some, None, is_some, map, codes, cond, drop, length}
 use Rattle.vs_defs.specs.Bytes.{Bytes, same_name}
 use Rattle.vs_defs.specs.ProgramWords as defs
 use Rattle.vs_words.specs.declared.command.Command.{Command}

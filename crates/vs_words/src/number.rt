@@ -41,9 +41,7 @@ fn number(digits: &[u8]) -> Option<u64>
 {
     let mut size: u64 = 0;
     for digit in digits {
-        size = size
-            .checked_mul(10)?
-            .checked_add(u64::from(*digit - b'0'))?;
+        size = size.checked_mul(10)?.checked_add(u64::from(*digit - b'0'))?;
     }
     Some(size)
 }
@@ -53,9 +51,5 @@ fn number(digits: &[u8]) -> Option<u64>
 pub fn read_number(text: &[u8]) -> Option<u64>
     ensures { result ≡ cond (is_plain_number text.now && nat_le (number_of text.now) (2 ^ 64 - 1)) (Some (number_of text.now)) None }
 {
-    if is_plain(text) {
-        number(text)
-    } else {
-        None
-    }
+    if is_plain(text) { number(text) } else { None }
 }

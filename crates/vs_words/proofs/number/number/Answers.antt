@@ -1,4 +1,4 @@
-use Rattle.std.proofs.Common.{rules, ◌≡◌, ◌≤◌, ◌<◌, ◌^◌, ◌*◌, ◌+◌, ◌-◌, ◌∙◌, None, Some, get_or, take, length, arith, ap, sym}
+use Rattle.std.proofs.Common.{rules, ◌≡◌, ◌≤◌, ◌<◌, ◌^◌, ◌*◌, ◌+◌, ◌∙◌, None, Some, take, arith, ap}
 use Rattle.vs_defs.specs.Decimal.{number_of}
 use Rattle.vs_words.proofs.Digits.{digit_at, exceeds, too_large, fits}
 use Rattle.std.proofs.lemmas.List.{take_all}

@@ -1,7 +1,7 @@
-use Rattle.std.proofs.Common.{rules, ◌≡◌, ◌∙◌, ◌-◌, ◌&&◌, true, None, Some, ap, sym, take, drop, length, List, is_some, ◌∷◌}
+use Rattle.std.proofs.Common.{rules, ◌≡◌, ◌∙◌, ◌-◌, Some, ap, sym, take, drop, length, List, is_some}
 use Rattle.vs_defs.specs.Bytes.{Bytes}
 use Rattle.vs_defs.specs.ProgramWords.{settings_of}
-use Rattle.vs_words.specs.Words.{are_plain, choices_of, seen, command_named}
+use Rattle.vs_words.specs.Words.{are_plain, seen, command_named}
 use Rattle.vs_words.proofs.Options.{split_first, command_step}
 use Rattle.vs_words.proofs.plain.are_plain.Goals as goal
 
