@@ -1,0 +1,9 @@
+//! What the program does, over any source and sink.
+#![tactic(auto)]
+
+mod alone;
+mod run;
+mod status;
+
+pub use run::run_alone;
+pub use status::Status;
