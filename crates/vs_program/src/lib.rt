@@ -7,3 +7,6 @@ mod status;
 
 pub use run::run_alone;
 pub use status::Status;
+
+#[cfg(test)]
+mod tests;
