@@ -1,0 +1,59 @@
+//! Exact searches over a set.
+ghost use Rattle.std.specs.Prelude.{◌≡◌, None, Some, IfOk, IfErr, IfSome};
+ghost use Rattle.vs_defs.specs.PlainAnswer.{truth_hits, query_of};
+ghost use Rattle.vs_defs.specs.Refuse.{search_refusal};
+ghost use Rattle.vs_command.specs.Answers.{answer_of};
+ghost use Rattle.vs_command.specs.Refusals.{refusal_of};
+ghost use Rattle.vs_command.specs.Requests.{what_of, search_of};
+ghost use Rattle.vs_command.specs.Scores.{HasScores};
+ghost use Rattle.vs_plain_set.specs.Searching.{IsAsked, AreNamed};
+
+use crate::Set;
+use std::alloc::Global;
+use std::marker::Brand;
+use std::sync::ledger::Blank;
+use vs_bits::Bits;
+use vs_command::{Answer, NamedHit, Refusal, Search, What};
+use vs_graph::Steps;
+use vs_outside::{List, NoMemory, Text};
+use vs_rank::Wanted;
+use vs_truth::{Hit, Members, nearest};
+
+// The vector that is looked for, or why there is none.
+fn query<'a>(set: &'a Set, what: &'a What) -> Result<&'a Bits, Refusal>
+    ensures found { IfOk result (λ bits. (bits.now ≡ query_of (what_of what.now) set.now.1) × (search_refusal (what_of what.now) (Some set.now.1) ≡ None)) }
+    ensures refused { IfErr result (λ e. IfSome (refusal_of e) (λ cause. search_refusal (what_of what.now) (Some set.now.1) ≡ Some cause)) }
+{
+    match what {
+        What::Ele(name) => match set.place_of(name.as_slice()) {
+            None => Err(Refusal::NoSuchElement),
+            Some(place) => Ok(set.vector(place)),
+        },
+        What::Values(bits) if bits.dim() != set.dim() => Err(Refusal::WrongDimension {
+            given: bits.dim(),
+            has: set.dim(),
+        }),
+        What::Values(bits) => Ok(bits),
+    }
+}
+
+impl Set {
+    /// What a search with TRUTH answers: the first COUNT members that pass, by distance, then name.
+    pub fn search(&self, alloc: Global, search: &Search) -> Result<Answer, Refusal>
+        ensures found { IfOk result (λ answer. answer_of answer ≡ truth_hits (search_of search.now) self.now.1) }
+        ensures unrefused { IfOk result (λ answer. search_refusal (what_of search.now.what) (Some self.now.1) ≡ None) }
+        ensures refused { IfErr result (λ e. IfSome (refusal_of e) (λ cause. search_refusal (what_of search.now.what) (Some self.now.1) ≡ Some cause)) }
+        ensures scores { IfOk result HasScores }
+    {
+        let query = query(self, &search.what)?;
+        let wanted = Wanted::new(|_: Option<&[u8]>| true);
+        let mut reads = Steps::<Brand>::new(Blank::new(1));
+        let hits = nearest(alloc, self, query, search.count, &wanted, &mut reads)?;
+        Ok(Answer::Hits {
+            dim: self.dim(),
+            scores: search.scores,
+            attrs: search.attrs,
+            hits: named(alloc, self, hits.as_slice(), search.attrs)?,
+        })
+    }
+}
