@@ -1,12 +1,12 @@
 //! Exact searches over a set.
-ghost use Rattle.std.specs.Prelude.{◌≡◌, None, Some, IfOk, IfErr, IfSome};
+ghost use Rattle.std.specs.Prelude.{◌≡◌, ◌<◌, None, Some, All, length, map, IfOk, IfErr, IfSome};
 ghost use Rattle.vs_defs.specs.PlainAnswer.{truth_hits, query_of};
 ghost use Rattle.vs_defs.specs.Refuse.{search_refusal};
-ghost use Rattle.vs_command.specs.Answers.{answer_of};
+ghost use Rattle.vs_command.specs.Answers.{answer_of, hit_of, hits_of};
 ghost use Rattle.vs_command.specs.Refusals.{refusal_of};
 ghost use Rattle.vs_command.specs.Requests.{what_of, search_of};
 ghost use Rattle.vs_command.specs.Scores.{HasScores};
-ghost use Rattle.vs_plain_set.specs.Searching.{IsAsked, AreNamed};
+ghost use Rattle.vs_plain_set.specs.Found.{hit_at};
 
 use crate::Set;
 use std::alloc::Global;
@@ -21,7 +21,9 @@ use vs_truth::{Hit, Members, nearest};
 
 // The vector that is looked for, or why there is none.
 fn query<'a>(set: &'a Set, what: &'a What) -> Result<&'a Bits, Refusal>
-    ensures found { IfOk result (λ bits. (bits.now ≡ query_of (what_of what.now) set.now.1) × (search_refusal (what_of what.now) (Some set.now.1) ≡ None)) }
+    ensures found { IfOk result (λ bits. bits.now ≡ query_of (what_of what.now) set.now.1) }
+    ensures dim { IfOk result (λ bits. length bits.now ≡ set.now.1.dim) }
+    ensures unrefused { IfOk result (λ bits. search_refusal (what_of what.now) (Some set.now.1) ≡ None) }
     ensures refused { IfErr result (λ e. IfSome (refusal_of e) (λ cause. search_refusal (what_of what.now) (Some set.now.1) ≡ Some cause)) }
 {
     match what {
@@ -35,6 +37,33 @@ fn query<'a>(set: &'a Set, what: &'a What) -> Result<&'a Bits, Refusal>
         }),
         What::Values(bits) => Ok(bits),
     }
+}
+
+// A hit with the name of its member, and the attribute where it is asked for.
+fn named_hit(alloc: Global, set: &Set, hit: Hit, attrs: bool) -> Result<NamedHit, NoMemory>
+    requires { hit.place < length set.now.1.members }
+    ensures { IfOk result (λ named. hit_of named ≡ hit_at attrs set.now.1.members hit) }
+{
+    let attr = match set.attr(hit.place) {
+        Some(text) if attrs => Some(Text::from_slice(alloc, text)?),
+        _ => None,
+    };
+    Ok(NamedHit {
+        name: Text::from_slice(alloc, set.name(hit.place))?,
+        dist: hit.dist,
+        attr,
+    })
+}
+
+fn named(alloc: Global, set: &Set, hits: &[Hit], attrs: bool) -> Result<List<NamedHit>, NoMemory>
+    requires { All (λ hit. hit.place < length set.now.1.members) hits.now }
+    ensures { IfOk result (λ named. hits_of named ≡ map (hit_at attrs set.now.1.members) hits.now) }
+{
+    let mut named = Vec::with_capacity(alloc, hits.len())?;
+    for hit in hits {
+        named.push_reserved(named_hit(alloc, set, *hit, attrs)?);
+    }
+    Ok(List::from_vec(named))
 }
 
 impl Set {

@@ -1,5 +1,5 @@
 //! The set, its changes, and what it tells of a member.
-ghost use Rattle.std.specs.Prelude.{◌≡◌, ◌<◌, ◌≤◌, ◌∷◌, [], true, false, pos, is_some, length, map, Some, None, IfOk, IfSome, OnOk, OnErr};
+ghost use Rattle.std.specs.Prelude.{◌≡◌, ℕ, ◌<◌, ◌≤◌, ◌∷◌, [], true, false, pos, is_some, length, map, slice_get, Some, None, IfOk, IfSome, IsSomeAnd, OnOk, OnErr};
 ghost use Rattle.vs_defs.specs.Bytes.{Bytes, same_name};
 ghost use Rattle.vs_defs.specs.PlainAnswer.{at_member, bulk_or_null};
 ghost use Rattle.vs_defs.specs.PlainStep.{new_set, added_to, removed, attributed};
@@ -13,7 +13,7 @@ use crate::member::{Member, attribute_after};
 use std::alloc::Global;
 use std::marker::Model;
 use std::sync::ledger::Ledger;
-use vs_bits::Add;
+use vs_bits::{Add, Bits};
 use vs_command::{Answer, level_of_word};
 use vs_graph::Steps;
 use vs_outside::{List, NoMemory, Text};
@@ -44,6 +44,17 @@ impl Model for Set {
     ghost invariant = { λ s. IsKept s.dim (map member_seen s.members.items) };
 }
 
+// The bits of a vector, one by one.
+fn signs_of(alloc: Global, bits: &Bits) -> Result<List<bool>, NoMemory>
+    ensures { IfOk result (λ signs. signs ≡ bits.now) }
+{
+    let mut signs = Vec::with_capacity(alloc, bits.dim() as usize)?;
+    for i in 0..bits.dim() {
+        signs.push_reserved(bits.bit(i));
+    }
+    Ok(List::from_vec(signs))
+}
+
 impl Set {
     /// The set that a VADD of an absent key makes; `number` is that of the change, and `word` the one that was drawn.
     pub fn of_one(alloc: Global, add: Add, word: u32, number: u64) -> Result<Set, NoMemory>
@@ -64,6 +75,21 @@ impl Set {
             cut: number,
             members,
         })
+    }
+
+    // How many members.
+    pub(crate) fn size(&self) -> u32
+        ensures { result ≡ length self.now.1.members }
+    {
+        self.members.len() as u32
+    }
+
+    // The vector of the member at this place.
+    pub(crate) fn vector(&self, place: u32) -> &Bits
+        requires { place < length self.now.1.members }
+        ensures { IsSomeAnd (slice_get self.now.1.members place) (λ member. result.now ≡ member.bits) }
+    {
+        &self.members[place as usize].bits
     }
 
     /// Whether it is the set of this key.
@@ -168,12 +194,7 @@ impl Set {
         let Some(place) = self.place_of(name) else {
             return Ok(Answer::NullList);
         };
-        let bits = &self.members[place as usize].bits;
-        let mut signs = Vec::with_capacity(alloc, bits.dim() as usize)?;
-        for i in 0..bits.dim() {
-            signs.push_reserved(bits.bit(i));
-        }
-        Ok(Answer::Signs(List::from_vec(signs)))
+        Ok(Answer::Signs(signs_of(alloc, self.vector(place))?))
     }
 
     /// A member's attribute, for VGETATTR.
