@@ -1,9 +1,0 @@
-//! A set of members under its key, as a plain list in member order. It has no links.
-#![tactic(auto)]
-
-mod member;
-mod pick;
-mod search;
-mod set;
-
-pub use set::Set;
