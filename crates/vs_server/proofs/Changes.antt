@@ -2,6 +2,7 @@
 use Rattle.std.proofs.Common.{◌≡◌, ℕ, ℤ, pos, inl, inr, List, Option, Some, None, Result, Ok, Err, refl, sym, ◌∙◌, length}
 use Rattle.std.specs.Prelude.{count_by}
 use Rattle.vs_defs.specs.Bytes.{Bytes, listed}
+use Rattle.vs_defs.specs.Reply.{reply}
 use Rattle.vs_defs.specs.Request as request
 use Rattle.vs_defs.specs.Store.{PlainStore, Contents, Member, set_of, member_of}
 use Rattle.vs_defs.specs.PlainStep.{changed, added, added_to, number_of_change}
@@ -64,3 +65,18 @@ long_changes_nothing old new r words (Ok a) (inl c) long =
     absurd (long_is_none a long (n.0, c.step.answers ∙ n.1))
 long_changes_nothing old new r words (Ok a) (inr (same, answers)) long = same
 long_changes_nothing old new r words (Err e) does long = absurd (cc)
+
+-- a short reply is the outcome's reply
+pub short_is_reply : (x : Result Answer Refusal) (b : Bytes) → short_of x ≡ Some b → reply (outcome_of x) ≡ b
+short_is_reply (Ok (Int n)) b e = cc
+short_is_reply (Ok Pong) b e = cc
+short_is_reply (Ok Bye) b e = cc
+short_is_reply (Ok (Bulk text)) b e = absurd (cc)
+short_is_reply (Ok NullText) b e = cc
+short_is_reply (Ok NullList) b e = cc
+short_is_reply (Ok (Names names)) b e = absurd (cc)
+short_is_reply (Ok (Signs signs)) b e = absurd (cc)
+short_is_reply (Ok (Hits dim scores attrs hits)) b e = absurd (cc)
+short_is_reply (Ok (Layers dim scores layers)) b e = absurd (cc)
+short_is_reply (Ok (Informed info)) b e = absurd (cc)
+short_is_reply (Err e) b is = cc

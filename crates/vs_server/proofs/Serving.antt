@@ -1,5 +1,5 @@
 -- How a message was served, from what was read, drawn and done.
-use Rattle.std.proofs.Common.{◌≡◌, ℕ, Bool, true, List, Option, Some, None, Result, Ok, Err, refl, sym, ap, subst, ◌∙◌, inl, inr, cond}
+use Rattle.std.proofs.Common.{◌≡◌, ℕ, zero, suc, length, Bool, true, false, List, Option, Some, None, Result, Ok, Err, refl, sym, ap, subst, ◌∙◌, inl, inr, cond}
 use Rattle.std.specs.Prelude.{IfSome, ◌&&◌, is_none}
 use Rattle.rand_pcg.specs.Lcg.{Lcg}
 use Rattle.vs_defs.specs.Request as request
@@ -12,6 +12,7 @@ use Rattle.vs_defs.specs.Stages.{is_plain, is_unfiltered, if_built, find_unfilte
 use Rattle.vs_defs.specs.Store.{PlainStore}
 use Rattle.vs_defs.specs.PlainMachine.{PlainHistory, PlainDoes}
 use Rattle.vs_session_defs.specs.Session as session
+use Rattle.rand_pcg.specs.Pcg.{pcg32}
 use Rattle.vs_session_defs.specs.Words.{drawn, after_draws}
 use Rattle.vs_command.specs.Outcomes.{refused_by}
 use Rattle.vs_session.specs.Stage.{Call, read, draws}
@@ -54,6 +55,12 @@ unfiltered_is_plain (request.Vismember key name) e = refl
 pub read_is_plain : (message : Message) (r : request.Request) → read message ≡ Ok r → is_plain r ≡ true
 read_is_plain message r e = unfiltered_is_plain r (is_built is_unfiltered (read_by find_unfiltered_option message) r e)
 
+-- ---- what is drawn
+
+pub length_drawn : (n : ℕ) (g : Lcg) → length (drawn n g) ≡ n
+length_drawn zero g = refl
+length_drawn (suc n) g = ap suc (length_drawn n (pcg32 g).1)
+
 -- ---- the ways in which a message is served
 
 abbrev pub Serving : PlainStore → Lcg → Outcome → Lcg → PlainHistory → Message → Type 0
@@ -85,15 +92,15 @@ pub carried_out : (old new : PlainStore) (gen gen' : Lcg) (message : Message) (r
     words ≡ drawn (draws r) gen → gen' ≡ after_draws (draws r) gen → PlainDoes old r words o new → (h : PlainHistory) (g : Lcg) → After old gen h g → Serving new gen' o g h message
 carried_out old new gen gen' message r words o is bounds words_are moved does h g after =
     let call : Calls h r (drawn (draws r) g) o new =
-        calls old new h r (drawn (draws r) g) o after.stored bounds
-            (subst (λ (x : List ℕ). PlainDoes old r x o new) (words_are ∙ ap (λ (x : Lcg). drawn (draws r) x) after.words) does)
+    calls old new h r (drawn (draws r) g) o after.stored bounds
+    (subst (λ (x : List ℕ). PlainDoes old r x o new) (words_are ∙ ap (λ (x : Lcg). drawn (draws r) x) after.words) does)
     in (
       o,
       call.0,
       after_draws (draws r) g,
-      inl (subst (λ (x : Result request.Request request.Refusal). session.ServesRead Call true read draws 0 g h x o call.0 (after_draws (draws r) g)) (sym is) (call.1.0, refl)),
-      record { stored = call.1.1; words = moved ∙ ap (λ (x : Lcg). after_draws (draws r) x) after.words },
-      call.1.1.own,
+      inl (subst (λ (x : Result request.Request request.Refusal). session.ServesRead Call true read draws 0 g h x o call.0 (after_draws (draws r) g)) (sym is) (call.1, refl)),
+      record { stored = call.2; words = moved ∙ ap (λ (x : Lcg). after_draws (draws r) x) after.words },
+      call.2.own,
       refl,
     )
 

@@ -61,6 +61,13 @@ impl<M: Machine> Server<M> {
     }
 }
 
+// Whether it is the answer of QUIT.
+fn is_quit(outcome: &Result<Answer, Refusal>) -> bool
+    ensures { result ≡ is_bye (outcome_of outcome.now) }
+{
+    matches!(outcome, Ok(Answer::Bye))
+}
+
 // Writes a reply whole, unless the sink fails.
 fn write_line<K: Sink>(line: &[u8], bye: bool, sink: &mut K) -> Replied
     ensures replied { (o : Outcome) → reply o ≡ line.now → is_bye o ≡ bye → IsReplied result (K.written sink.old) (K.written sink.new) o }
@@ -107,7 +114,7 @@ impl<M: Machine> Handler for Server<M> {
     fn handle<K: Sink>(&mut self, message: &[Text], sink: &mut K) -> Replied {
         let outcome = self.carry_out(message);
         if let Some(short) = short_reply(&outcome) {
-            return write_line(short.as_slice(), matches!(outcome, Ok(Answer::Bye)), sink);
+            return write_line(short.as_slice(), is_quit(&outcome), sink);
         }
         match &outcome {
             Ok(answer) => write_answer(&mut self.reply, answer, sink),
