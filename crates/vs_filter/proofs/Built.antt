@@ -6,7 +6,7 @@ use Rattle.vs_filter.specs.declared.operator.Operator.{Operator}
 use Rattle.vs_filter.specs.declared.code.Instruction.{Instruction}
 use Rattle.vs_filter.specs.declared.code.Instruction.TheVariants.{Binary}
 use Rattle.vs_filter.specs.Seen.{operator_seen}
-use Rattle.vs_filter.specs.Code.{step, wrapped, joined, built, tree_of, Adds}
+use Rattle.vs_filter.specs.Code.{step, wrapped, built, tree_of, Adds}
 
 built_append : (before more : List Instruction) (es : List Expr) → built (before ++ more) es ≡ option_and_then (built more) (built before es)
 built_append [] more es = refl

@@ -1,8 +1,8 @@
 -- One turn of reading the literals of a list.
-use Rattle.std.proofs.Common.{◌≡◌, ◌<◌, ◌-◌, ℕ, zero, suc, Bool, true, false, cond, List, [], ◌∷◌, ◌++◌, Ok, Err, refl, ap, sym, ◌∙◌, arith, append_assoc}
+use Rattle.std.proofs.Common.{◌≡◌, ◌<◌, ◌-◌, ℕ, zero, suc, Bool, true, false, List, [], ◌∷◌, ◌++◌, Ok, Err, refl, ap, sym, ◌∙◌, arith, append_assoc}
 use Rattle.std.proofs.lemmas.Bool.{false≢true}
 use Rattle.vs_defs.specs.AttributeField.{Single}
-use Rattle.vs_defs.specs.FilterText.{Token, Comma, Tokens, Parse, then_parse, literal_at, literals_within, next, rest_of, offset, is_comma, is_close_list, closing, syntax, Syntax}
+use Rattle.vs_defs.specs.FilterText.{Token, Comma, Tokens, Parse, then_parse, literal_at, literals_within, next, rest_of, offset, is_comma, is_close_list, closing, Syntax}
 
 -- these items before what is read
 abbrev pub with_items : List Single → Parse (List Single) → Parse (List Single)

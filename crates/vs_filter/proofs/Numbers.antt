@@ -1,5 +1,5 @@
 -- Numbers within 128 bits.
-use Rattle.std.proofs.Common.{◌≡◌, ℕ, ◌<◌, ◌^◌, Bool, true, false, cond, refl, sym, ap, ◌∙◌, arith, Option, Some, None, ℤ, pos, negsuc, nat_lt}
+use Rattle.std.proofs.Common.{◌≡◌, ◌^◌, true, false, refl, arith, Option, Some, None, ℤ, pos, negsuc}
 use Rattle.std.specs.Option.{SomeIff}
 use Rattle.std.specs.Prelude.{FitsSigned}
 use Rattle.std.specs.Int.{w128}

@@ -1,5 +1,5 @@
 -- Two texts are one where their order says so.
-use Rattle.std.proofs.Common.{◌≡◌, ℕ, List}
+use Rattle.std.proofs.Common.{◌≡◌}
 use Rattle.std.specs.Ordering.{is_eq}
 use Rattle.std.proofs.lemmas.Map.Text.{is_eq-slice_cmp}
 use Rattle.vs_defs.specs.Bytes.{Bytes, name_cmp, same_name}

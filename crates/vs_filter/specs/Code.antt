@@ -1,5 +1,5 @@
 -- What a list of instructions builds: it takes expressions from the top of a stack, and puts theirs there.
-use Rattle.std.specs.Prelude.{◌≡◌, ℕ, List, [], ◌∷◌, map, Option, Some, None, option_and_then}
+use Rattle.std.specs.Prelude.{◌≡◌, List, [], ◌∷◌, map, Option, Some, None, option_and_then}
 use Rattle.vs_defs.specs.AttributeField as field
 use Rattle.vs_defs.specs.AttributeField.{Single}
 use Rattle.vs_defs.specs.Filter as filter

@@ -1,7 +1,6 @@
 -- What a list of instructions makes of a stack of values, at an attribute's text. None is a failure.
-use Rattle.std.specs.Prelude.{◌≡◌, ◌<◌, ℕ, List, [], ◌∷◌, map, length, Option, Some, None, option_map, option_and_then}
+use Rattle.std.specs.Prelude.{◌≡◌, ◌<◌, List, [], ◌∷◌, map, length, Option, Some, None, option_map, option_and_then}
 use Rattle.vs_defs.specs.Bytes.{Bytes}
-use Rattle.vs_defs.specs.AttributeField as field
 use Rattle.vs_defs.specs.AttributeField.{Field, One, Listed, field_of}
 use Rattle.vs_defs.specs.Filter as filter
 use Rattle.vs_defs.specs.Filter.{of_values, not_of, negative_of, with_kind}

@@ -1,5 +1,5 @@
 -- What the values of an evaluation stand for, and the definitions' operators on all values alike.
-use Rattle.std.specs.Prelude.{ℕ, Bool, List, map, Option, Some, None, option_map, option_and_then, ℤ}
+use Rattle.std.specs.Prelude.{Bool, List, map, Option, None, option_map, option_and_then, ℤ}
 use Rattle.vs_defs.specs.Bytes.{Bytes}
 use Rattle.vs_defs.specs.AttributeField as field
 use Rattle.vs_defs.specs.AttributeField.{Single, Field, One, Listed}

@@ -19,7 +19,7 @@ enum Ending {
     Other,
 }
 
-fn ending(alloc: Global, text: &[u8]) -> Ending {
+fn ending_of(alloc: Global, text: &[u8]) -> Ending {
     if text.len() > 4096 {
         return Ending::Other;
     }
@@ -56,13 +56,13 @@ fn places(rt: HostRuntime) -> Result<(), Fail> {
         (b"'open", Ending::Syntax(0)),
         (b"[1, -2, 'a', true]", Ending::Filter),
         (b"[1,,2]", Ending::Syntax(3)),
-        (b"[1, 2", Ending::Syntax(6)),
+        (b"[1, 2", Ending::Syntax(5)),
         (b".5", Ending::Syntax(0)),
         (b"1.e5", Ending::Syntax(1)),
         (b"- - 1", Ending::Filter),
     ];
     for (text, wanted) in cases {
-        assert_eq!(rt; ending(rt.alloc(), text), wanted);
+        assert_eq!(rt; ending_of(rt.alloc(), text), wanted);
     }
     Ok(())
 }
@@ -87,7 +87,7 @@ fn depths(rt: HostRuntime) -> Result<(), Fail> {
         for _ in 0..count {
             text.extend_from_slice(after)?;
         }
-        assert_eq!(rt; ending(alloc, text.as_slice()), wanted);
+        assert_eq!(rt; ending_of(alloc, text.as_slice()), wanted);
     }
     Ok(())
 }

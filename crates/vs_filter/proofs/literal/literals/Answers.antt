@@ -1,6 +1,6 @@
-use Rattle.std.proofs.Common.{rules, arith, ◌≡◌, ◌+◌, ◌-◌, ◌<◌, [], ◌∷◌, ◌++◌, map, true, false, Ok, ap, ap₂, refl, sym, ◌∙◌}
+use Rattle.std.proofs.Common.{rules, ◌≡◌, ◌-◌, ◌<◌, [], ◌∷◌, ◌++◌, map, true, Ok, ap, ap₂, sym, ◌∙◌}
 use Rattle.std.proofs.lemmas.List.{map-append}
-use Rattle.vs_defs.specs.FilterText.{literals_within, literal_at, next, rest_of, is_comma, is_close_list}
+use Rattle.vs_defs.specs.FilterText.{literals_within, next, is_comma, is_close_list}
 use Rattle.vs_filter.specs.Seen.{tokens_seen}
 use Rattle.vs_filter.specs.Code.{single_seen}
 use Rattle.vs_filter.proofs.ItemSteps.{with_items, items_comma, items_close}

@@ -1,8 +1,8 @@
-use Rattle.std.proofs.Common.{rules, arith, ◌≡◌, ◌<◌, ℕ, suc, ◌-◌, Ok, Some, [], ◌∷◌, ◌++◌, true, refl, ap, sym, ◌∙◌, subst, map}
+use Rattle.std.proofs.Common.{rules, arith, ◌≡◌, ◌<◌, ℕ, suc, ◌-◌, Ok, Some, [], ◌∷◌, ◌++◌, refl, ap, sym, ◌∙◌, subst, map}
 use Rattle.vs_defs.specs.Filter as filter
 use Rattle.vs_defs.specs.AttributeField as field
-use Rattle.vs_defs.specs.FilterText.{Parse, list_at, Not, Numeral, Quoted, Truth, Selector, OpenList, expr_within, next, rest_of, operator_at, tighter, not_rule, comparison_rule, sum_rule, factor_rule}
-use Rattle.vs_filter.specs.Seen.{operator_seen, tokens_seen, is_not}
+use Rattle.vs_defs.specs.FilterText.{Parse, list_at, Not, Numeral, Quoted, Truth, Selector, OpenList, expr_within, next, rest_of, not_rule, comparison_rule, sum_rule, factor_rule}
+use Rattle.vs_filter.specs.Seen.{operator_seen, tokens_seen}
 use Rattle.vs_filter.specs.Rules.{rule_seen}
 use Rattle.vs_filter.specs.Parsed.{IsParse}
 use Rattle.vs_filter.specs.Code.{single_seen}

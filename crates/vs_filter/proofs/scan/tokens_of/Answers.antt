@@ -1,5 +1,5 @@
 use Rattle.std.proofs.Common.{length-append, rules, arith, ◌≡◌, ◌+◌, ◌-◌, [], ◌∷◌, ◌++◌, length, true, false, ap, refl, ◌∙◌}
-use Rattle.vs_defs.specs.FilterText.{Front, token_at, skip_space, is_last, tokens_within}
+use Rattle.vs_defs.specs.FilterText.{Front, token_at, is_last, tokens_within}
 use Rattle.vs_filter.specs.Seen.{token_seen, tokens_seen}
 use Rattle.vs_filter.specs.declared.token.Placed.{Placed}
 use Rattle.vs_filter.proofs.Tokens.{pushed_last, pushed_more}
