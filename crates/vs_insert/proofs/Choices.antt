@@ -1,14 +1,13 @@
 -- The choice at each layer, and the lists of all layers, by names.
-use Rattle.std.proofs.Common.{◌≡◌, ℕ, zero, suc, ◌+◌, ◌-◌, ◌<◌, ◌≤◌, Bool, true, false, cond, leb, List, [], ◌∷◌, ◌++◌, length, map, get_or, take, add-one, min, refl, sym, ap, ◌∙◌, subst, arith, inl, inr}
-use Rattle.std.specs.Prelude.{Some, None, IsSome, is_some, IsSomeAnd, IfSome, nat_eq, nat_le, nat_lt, option_map, unwrap_or, slice_get, slice_index, reverse, replicate, MatchOption, All}
+use Rattle.std.proofs.Common.{◌≡◌, ℕ, zero, suc, ◌+◌, ◌-◌, ◌<◌, ◌≤◌, Bool, true, false, cond, leb, List, [], ◌∷◌, ◌++◌, length, map, get_or, add-one, min, refl, sym, ap, ◌∙◌, subst, arith, inl, inr}
+use Rattle.std.specs.Prelude.{Some, None, IsSome, IsSomeAnd, IfSome, nat_eq, nat_lt, option_map, unwrap_or, slice_get, slice_index, reverse, replicate, MatchOption, All}
 use Rattle.std.specs.List.{IsDistinct}
 use Rattle.std.specs.Option.{option_map_or}
 use Rattle.std.specs.declared.option.Option.{Option}
 use Rattle.std.proofs.Math.Nat.{min-eq_left, min-eq_right, min-le_left, min-le_right}
-use Rattle.std.proofs.lemmas.Bool.{cases_lt, cond-true, cond-false, leb-true, ltb-true, ltb-false, both_ways}
+use Rattle.std.proofs.lemmas.Bool.{cases_lt, leb-true, ltb-false, both_ways}
 use Rattle.std.proofs.lemmas.Option.{none-some, same_Some}
 use Rattle.std.proofs.lemmas.List.{length-map, length-append, append-nil, map-append, append_assoc, reverse-append, reverse-reverse, length-reverse, length-replicate, replicate-append-replicate}
-use Rattle.std.proofs.lemmas.List.Elements.{All-map}
 use Rattle.vs_bits.proofs.Distances.{words_ham-same}
 use Rattle.vs_defs.specs.Bytes.{Bytes, first_in}
 use Rattle.vs_defs.specs.Vector.{Vector, ham}
@@ -20,7 +19,6 @@ use Rattle.vs_defs.specs.Beam as beams
 use Rattle.vs_defs.specs.Beam.{layers_down, descent_start}
 use Rattle.vs_defs.specs.Insertion.{ChoosesFrom, IsChosenBelow, IsChosen, pass_all}
 use Rattle.vs_graph.specs.declared.node.Node.{Node}
-use Rattle.vs_graph.specs.declared.node.Body.{Body}
 use Rattle.vs_graph.specs.Good.{body_at, StandsAt, IsGoodNode, AreLinksGood, IsEntry, IsGood}
 use Rattle.vs_graph.specs.Bodies.{Bodies, words_at}
 use Rattle.vs_graph.specs.Standing.{AreIds, members_of, name_of, set_of}
@@ -29,7 +27,7 @@ use Rattle.vs_graph.proofs.Standing.{bits_there, member_there}
 use Rattle.vs_rank.specs.declared.Key.{Key}
 use Rattle.vs_link.specs.Selected.{selected}
 use Rattle.vs_link.proofs.Chosen.{chosen_all, chosen_few, chosen_once}
-use Rattle.vs_beam.specs.Beam.{far_at, key_at, ranked, level_at, IsBeam, IsDescent}
+use Rattle.vs_beam.specs.Beam.{key_at, ranked, IsBeam, IsDescent}
 use Rattle.vs_beam.specs.Named.{keys_named, stops_named}
 use Rattle.vs_beam.proofs.Descents.{stands_below}
 use Rattle.vs_beam.proofs.Sets.{beam_is_defined, descent_is_defined}
@@ -38,7 +36,7 @@ use Rattle.vs_insert.specs.Drafts.{ids_of, names_of, chosen_at, names_down, AreC
 use Rattle.vs_insert.specs.Joined.{layers_below}
 use Rattle.vs_insert.specs.Added.{AreDrafted}
 use Rattle.vs_insert.specs.Choosing.{everyone, IsLayerChosen, AreChosenFrom, drafted_by}
-use Rattle.vs_insert.proofs.Found.{found_all, found_stand, found_keys, found_once}
+use Rattle.vs_insert.proofs.Found.{found_stand, found_keys, found_once}
 use Rattle.vs_insert.proofs.Stepping.{names_chosen}
 use Rattle.vs_insert.proofs.Named.{layers_are, level_of_member}
 use Rattle.vs_insert.proofs.Adding.{some_of}

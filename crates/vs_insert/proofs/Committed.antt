@@ -1,25 +1,21 @@
 -- What a commit's steps come to.
-use Rattle.std.proofs.Common.{◌≡◌, ◌≢◌, ℕ, ◌+◌, ◌<◌, ◌≤◌, ◌^◌, Bool, true, false, cond, List, length, min, refl, sym, ap, ◌∙◌, subst, arith, inl, inr}
-use Rattle.std.specs.Prelude.{Some, None, IfSome, nat_lt, All}
+use Rattle.std.proofs.Common.{◌≡◌, ℕ, ◌+◌, ◌<◌, ◌≤◌, List, min, refl, sym, ◌∙◌, subst, arith, inl, inr}
+use Rattle.std.specs.Prelude.{Some, None, nat_lt}
 use Rattle.std.specs.declared.option.Option.{Option}
-use Rattle.std.proofs.Math.Nat.{min-le_left, min-le_right, le-min, min-eq_right, min-eq_left}
+use Rattle.std.proofs.Math.Nat.{min-le_left, min-eq_right}
 use Rattle.std.proofs.lemmas.Bool.{cond-true, cond-false, lt-ltb, ltb-true, cases_lt}
 use Rattle.vs_defs.specs.Words.{FitsDimension}
 use Rattle.vs_graph.specs.declared.node.Node.{Node}
-use Rattle.vs_graph.specs.declared.node.Body.{Body}
 use Rattle.vs_graph.specs.declared.edit.Edit.{Edit}
 use Rattle.vs_graph.specs.Edits.{changed, overwritten}
-use Rattle.vs_graph.specs.Good.{StandsAt, AreLinksGood, IsGood}
-use Rattle.vs_graph.specs.Newcomer.{ChangesAt, IsNewcomer}
+use Rattle.vs_graph.specs.Good.{AreLinksGood}
+use Rattle.vs_graph.specs.Newcomer.{ChangesAt}
 use Rattle.vs_graph.proofs.Renaming.{no_change}
 use Rattle.vs_graph.proofs.Lists.{not_true}
 use Rattle.vs_beam.specs.Beam.{level_at}
-use Rattle.vs_unlink.specs.Unlinked.{bare}
 use Rattle.vs_insert.specs.declared.draft.Chosen.{Chosen}
-use Rattle.vs_insert.specs.Drafts.{chosen_at, AreChoices}
-use Rattle.vs_insert.specs.Joined.{layers_shared, IsSharedBelow, IsJoinedFrom}
+use Rattle.vs_insert.specs.Joined.{layers_shared, IsJoinedFrom}
 use Rattle.vs_insert.specs.Added.{entry_after}
-use Rattle.vs_insert.proofs.Adding.{is_standing, not_new, shared_is}
 
 module _ (first put : Edit) (base at : ℕ → Option Node) (same : base ≡ at) (none : (id : ℕ) → changed first id ≡ None) where
   pub links_put : (m k dim : ℕ) (node : Node) → k ≡ m → AreLinksGood at m dim → FitsDimension dim node.body.bits

@@ -1,8 +1,7 @@
 -- What a beam without a filter found.
-use Rattle.std.proofs.Common.{◌≡◌, ℕ, zero, suc, ◌<◌, ◌≤◌, true, false, List, [], ◌∷◌, length, take, map, get_or, refl, sym, ap, ◌∙◌, subst, arith, length-take}
-use Rattle.std.specs.Prelude.{Some, None, IsSome, IsSomeAnd, nat_eq, filter, slice_get, All, Contains}
+use Rattle.std.proofs.Common.{◌≡◌, ℕ, zero, suc, ◌<◌, true, false, List, [], ◌∷◌, length, take, map, refl, sym, ap, ◌∙◌, subst, arith, length-take}
+use Rattle.std.specs.Prelude.{Some, nat_eq, filter, slice_get, All}
 use Rattle.std.specs.List.{IsDistinct}
-use Rattle.std.specs.Option.{option_map_or}
 use Rattle.std.specs.List.Sorted.{IsPermutation}
 use Rattle.std.specs.declared.option.Option.{Option}
 use Rattle.std.proofs.lemmas.Bool.Decides.{nat_tests, Decides-eqb}
@@ -15,7 +14,7 @@ use Rattle.vs_graph.specs.declared.node.Node.{Node}
 use Rattle.vs_graph.specs.Good.{StandsAt}
 use Rattle.vs_rank.specs.declared.Key.{Key}
 use Rattle.vs_rank.proofs.Keys.{same_sorted}
-use Rattle.vs_beam.specs.Beam.{key_at, attr_at, best_of, ranked, IsBeam}
+use Rattle.vs_beam.specs.Beam.{key_at, ranked, IsBeam}
 use Rattle.vs_beam.proofs.Steps.{ranked_keys}
 use Rattle.vs_insert.specs.Choosing.{everyone}
 

@@ -1,22 +1,20 @@
 -- A new member that is joined at each of its layers is linked, by names, as the definitions say.
-use Rattle.std.proofs.Common.{◌≡◌, ◌≢◌, ◌⊎◌, ℕ, zero, suc, ◌+◌, ◌<◌, ◌≤◌, Bool, true, false, cond, eqb, ◌||◌, List, [], ◌∷◌, ◌++◌, length, map, add-one, refl, sym, ap, ◌∙◌, subst, arith, inl, inr}
-use Rattle.std.specs.Prelude.{Some, None, IsSome, is_some, IsSomeAnd, IfSome, nat_eq, nat_lt, nat_le, option_map, unwrap_or, Contains}
-use Rattle.std.specs.List.{list_any, IsDistinct}
+use Rattle.std.proofs.Common.{◌≡◌, ◌≢◌, ◌⊎◌, ℕ, zero, suc, ◌+◌, ◌≤◌, Bool, true, false, cond, eqb, ◌||◌, List, [], ◌∷◌, ◌++◌, length, map, add-one, refl, sym, ap, ◌∙◌, arith, inl, inr}
+use Rattle.std.specs.Prelude.{Some, None, IsSome, is_some, IsSomeAnd, IfSome, nat_eq, nat_lt, nat_le, option_map, unwrap_or}
+use Rattle.std.specs.List.{list_any}
 use Rattle.std.specs.Option.{option_map_or}
 use Rattle.std.specs.declared.option.Option.{Option}
 use Rattle.std.proofs.lemmas.Bool.{cases_eq, cond-true, le-leb, both_ways, ne_eqb, eq-eqb}
-use Rattle.std.proofs.lemmas.Option.{none-some}
 use Rattle.std.proofs.lemmas.List.{map-append}
 use Rattle.vs_defs.specs.Bytes.{Bytes}
-use Rattle.vs_defs.specs.Store.{Member, member_of}
+use Rattle.vs_defs.specs.Store.{Member}
 use Rattle.vs_defs.specs.Links.{Links}
 use Rattle.vs_defs.specs.Beam as defs
 use Rattle.vs_defs.specs.Beam.{layers_down}
 use Rattle.vs_defs.specs.Words.{FitsDimension}
-use Rattle.vs_defs.specs.Insertion.{SameLinks, linked_along, entry_by, entry_with, IsLinkedBy}
+use Rattle.vs_defs.specs.Insertion.{linked_along, entry_by, IsLinkedBy}
 use Rattle.vs_graph.specs.declared.node.Node.{Node}
-use Rattle.vs_graph.specs.Good.{body_at, links_at, links_of, StandsAt, AreLinksGood, IsEntry, IsGood}
-use Rattle.vs_graph.specs.Bodies.{name_at}
+use Rattle.vs_graph.specs.Good.{body_at, links_at, links_of, AreLinksGood, IsEntry, IsGood}
 use Rattle.vs_graph.specs.Newcomer.{ChangesAt, IsNewcomer}
 use Rattle.vs_graph.specs.Named.{is_live, IsLiveName, IsNamed}
 use Rattle.vs_graph.specs.Standing.{AreIds, member_of_node, member_at, members_of, name_of, named_links, set_of}
@@ -34,7 +32,7 @@ use Rattle.vs_insert.specs.Drafts.{names_down}
 use Rattle.vs_insert.specs.Joined.{layers_below, IsJoinedFrom}
 use Rattle.vs_insert.specs.Added.{entry_after}
 use Rattle.vs_insert.proofs.Bare.{names_same, members_same, same_member_by, ids_on, ids_back}
-use Rattle.vs_insert.proofs.Adding.{none_stands, mid_good, not_new, is_standing}
+use Rattle.vs_insert.proofs.Adding.{none_stands, mid_good}
 use Rattle.vs_insert.proofs.Stepping.{links_ext}
 
 pub layers_are : (n : ℕ) → layers_down n 0 ≡ layers_below (suc n)

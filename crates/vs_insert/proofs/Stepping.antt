@@ -1,12 +1,12 @@
 -- A new member is joined at one layer more.
-use Rattle.std.proofs.Common.{◌≡◌, ◌≢◌, ◌⊎◌, ℕ, zero, suc, ◌<◌, ◌≤◌, Bool, true, false, not, cond, ◌&&◌, ◌||◌, List, [], ◌∷◌, ◌++◌, length, map, take, refl, sym, ap, ◌∙◌, subst, arith, inl, inr}
-use Rattle.std.specs.Prelude.{Some, None, IsSome, is_some, IsSomeAnd, nat_le, nat_lt, fold, option_map, reverse, slice_get, unwrap_or, All}
+use Rattle.std.proofs.Common.{◌≡◌, ◌≢◌, ◌⊎◌, ℕ, zero, suc, ◌<◌, ◌≤◌, Bool, true, false, not, ◌&&◌, ◌||◌, List, [], ◌∷◌, ◌++◌, length, map, take, refl, sym, ap, ◌∙◌, subst, arith, inl, inr}
+use Rattle.std.specs.Prelude.{Some, None, IsSome, IsSomeAnd, nat_le, nat_lt, fold, option_map, reverse, slice_get, unwrap_or, All}
 use Rattle.std.specs.List.{list_any}
 use Rattle.std.specs.Option.{option_map_or}
 use Rattle.std.specs.declared.option.Option.{Option}
 use Rattle.std.proofs.Math.Path.{fun_ext}
 use Rattle.std.proofs.lemmas.Bool.{cases_eq, cond-false, leb-true, both_ways}
-use Rattle.std.proofs.lemmas.List.{map-append, reverse-append, length-map}
+use Rattle.std.proofs.lemmas.List.{reverse-append}
 use Rattle.std.proofs.lemmas.Slice.Eq.{bytes_eq-Decides}
 use Rattle.vs_defs.specs.Bytes.{Bytes, same_name}
 use Rattle.vs_defs.specs.Store.{Member}
@@ -17,7 +17,6 @@ use Rattle.vs_graph.specs.declared.node.Node.{Node}
 use Rattle.vs_graph.specs.declared.node.Body.{Body}
 use Rattle.vs_graph.specs.Good.{body_at, links_at, StandsAt, AreLinksGood}
 use Rattle.vs_graph.specs.GoodTable.{KeepsLinked}
-use Rattle.vs_graph.specs.Named.{is_live}
 use Rattle.vs_graph.specs.Standing.{AreIds, member_of_node, member_at, members_of, name_of, named_links}
 use Rattle.vs_graph.proofs.Goods.{links_elsewhere}
 use Rattle.vs_graph.proofs.Sorts.{In, test_from_in}
@@ -123,7 +122,7 @@ module _ (at now new : ℕ → Option Node) (m x : ℕ) (entry fallback : Option
       ∙ ap (λ ms. rules.linked m ms (named_links now ids) (name_of at x) n (map (name_of at) (ids_of (chosen_at chosen n))) (option_map (name_of at) fallback)) (members_same at now j.rest dim ids)
       ∙ ap (λ c. rules.linked m (members_of at dim ids) (named_links now ids) (name_of at x) n c (option_map (name_of at) fallback)) (names_chosen at (chosen_at chosen n) bodies) in
       let to_entry : rules.linked m (members_of at dim ids) (named_links now ids) (name_of at x) n (names_of (chosen_at chosen n)) (option_map (name_of at) fallback)
-          ≡ rules.linked m (members_of at dim ids) (named_links now ids) (name_of at x) n (names_of (chosen_at chosen n)) (option_map (name_of at) entry) =
+      ≡ rules.linked m (members_of at dim ids) (named_links now ids) (name_of at x) n (names_of (chosen_at chosen n)) (option_map (name_of at) entry) =
       elim falls [
         | inl e ↦ ap (λ f. rules.linked m (members_of at dim ids) (named_links now ids) (name_of at x) n (names_of (chosen_at chosen n)) (option_map (name_of at) f)) e
         | inr none ↦ fallback_same m (members_of at dim ids) (named_links now ids) (name_of at x) n (names_of (chosen_at chosen n)) (option_map (name_of at) fallback) (option_map (name_of at) entry) (nobody_else at dim x n ids are none)

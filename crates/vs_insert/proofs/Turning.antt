@@ -1,15 +1,14 @@
 -- What is known where one layer more is to be joined.
 use Rattle.std.proofs.Common.{◌≡◌, ◌≢◌, ℕ, zero, suc, ◌<◌, ◌≤◌, List, [], ◌∷◌, length, map, get_or, refl, sym, ap, ◌∙◌, subst, arith, inl, inr}
-use Rattle.std.specs.Prelude.{Some, None, IsSomeAnd, slice_get, unwrap_or, All, option_map}
-use Rattle.std.specs.List.{IsDistinct}
+use Rattle.std.specs.Prelude.{Some, None, IsSomeAnd, All, option_map}
 use Rattle.std.specs.declared.option.Option.{Option}
 use Rattle.std.proofs.lemmas.List.{length-map}
 use Rattle.std.proofs.lemmas.List.Elements.{All-map}
 use Rattle.vs_defs.specs.Insertion.{SameLinks}
 use Rattle.vs_defs.specs.Linking as rules
 use Rattle.vs_graph.specs.declared.node.Node.{Node}
-use Rattle.vs_graph.specs.Good.{body_at, layers_at, links_at, StandsAt, AreLinksGood}
-use Rattle.vs_graph.specs.Standing.{AreIds, members_of, name_of, named_links}
+use Rattle.vs_graph.specs.Good.{layers_at, links_at, StandsAt, AreLinksGood}
+use Rattle.vs_graph.specs.Standing.{members_of, name_of, named_links}
 use Rattle.vs_graph.proofs.Goods.{layers_from, level_from}
 use Rattle.vs_link.specs.Linked.{AreChosen, IsFallback}
 use Rattle.vs_insert.specs.declared.draft.Chosen.{Chosen}

@@ -1,5 +1,5 @@
 -- A new member that is joined layer by layer, from its highest layer down.
-use Rattle.std.specs.Prelude.{◌≡◌, ◌≢◌, ◌<◌, ◌≤◌, ◌+◌, ◌*◌, ℕ, zero, suc, min, List, [], ◌∷◌, length, map, take, Some, None, IsSomeAnd, option_map}
+use Rattle.std.specs.Prelude.{◌≡◌, ◌≢◌, ◌<◌, ◌≤◌, ◌+◌, ◌*◌, ℕ, zero, suc, min, List, [], ◌∷◌, length, map, take, IsSomeAnd, option_map}
 use Rattle.std.specs.Option.{option_map_or}
 use Rattle.std.specs.declared.option.Option.{Option}
 use Rattle.vs_defs.specs.Insertion.{SameLinks, linked_along}

@@ -82,9 +82,7 @@ fn choose<N: Nodes, F: Testing, L: Ledger>(
     ensures { IfOk result (λ made. IsLayerChosen (N.at graph.now.nodes) graph.now.m layer from ef query.now made.0 made.1) }
 {
     let nodes = graph.nodes();
-    let search = beam(
-        alloc, graph, layer, from, query, ef, 0, wanted, slot, reads,
-    )?;
+    let search = beam(alloc, graph, layer, from, query, ef, 0, wanted, slot, reads)?;
     let found = search.found.as_slice();
     let edit = Edit::new(alloc);
     let ids = select(alloc, &edit, nodes, found, graph.m(), reads)?;

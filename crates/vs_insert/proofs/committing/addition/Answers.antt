@@ -16,10 +16,12 @@ use Rattle.vs_insert.proofs.committing.addition.Goals.{then-shared-level, else-s
 pub join_layers-requires-clause-good : goal.join_layers-requires-clause-good
 join_layers-requires-clause-good g c =
     let base = g.N.Nodes.at c.nodes-nodes.result.now in
-    let s = c.args.graph.now in (
+    let s = c.args.graph.now in
+    let d = c.args.draft in
+    let node : Node = record { body = d.body; attr = c.args.attr; level = d.level; links = c.in_ok-no_links.field-0 } in (
       s.dim,
       c.nodes-nodes.ensures.good.dim_high,
-      links_put c.new-edit.result c.put_newcomer.new.edit base (g.N.Nodes.at s.nodes) (ap g.N.Nodes.at c.nodes-nodes.ensures.nodes) c.new-edit.ensures s.m c.m.result s.dim _ c.m.ensures.m c.nodes-nodes.ensures.good.links c.requires.fits
+      links_put c.new-edit.result c.put_newcomer.new.edit base (g.N.Nodes.at s.nodes) (ap g.N.Nodes.at c.nodes-nodes.ensures.nodes) c.new-edit.ensures s.m c.m.result s.dim node c.m.ensures.m c.nodes-nodes.ensures.good.links c.requires.fits
           c.in_ok-put_newcomer.ensures.good,
     )
 
