@@ -1,13 +1,14 @@
 //! The set, its changes, and what it tells of a member.
-ghost use Rattle.std.specs.Prelude.{◌≡◌, ℕ, ◌<◌, ◌≤◌, ◌∷◌, [], true, false, pos, is_some, length, map, slice_get, Some, None, IfOk, IfSome, IsSomeAnd, OnOk, OnErr};
+ghost use Rattle.std.specs.Prelude.{◌≡◌, ℕ, ◌<◌, ◌≤◌, ◌∷◌, [], true, false, pos, is_some, length, map, position, slice_get, Some, None, IfOk, IfSome, IsSomeAnd, OnOk, OnErr};
 ghost use Rattle.vs_defs.specs.Bytes.{Bytes, same_name};
 ghost use Rattle.vs_defs.specs.PlainAnswer.{at_member, bulk_or_null};
 ghost use Rattle.vs_defs.specs.PlainStep.{new_set, added_to, removed, attributed};
 ghost use Rattle.vs_defs.specs.Request as request;
-ghost use Rattle.vs_defs.specs.Store.{is_member, member_of};
+ghost use Rattle.vs_defs.specs.Store.{is_member, is_of_name, member_of};
 ghost use Rattle.vs_bits.specs.Requests.{add_of};
 ghost use Rattle.vs_command.specs.Answers.{answer_of};
-ghost use Rattle.vs_plain_set.specs.Kept.{IsAt};
+ghost use Rattle.vs_plain_set.specs.Kept.{IsAt, IsKept};
+ghost use Rattle.vs_plain_set.specs.Seen.{member_seen};
 
 use crate::member::{Member, attribute_after};
 use std::alloc::Global;
@@ -53,6 +54,14 @@ fn signs_of(alloc: Global, bits: &Bits) -> Result<List<bool>, NoMemory>
         signs.push_reserved(bits.bit(i));
     }
     Ok(List::from_vec(signs))
+}
+
+fn place_among(members: &[Member], name: &[u8]) -> Option<usize>
+    ensures { result ≡ position (λ member. is_of_name name.now (member_seen member)) members.now }
+{
+    members
+        .iter()
+        .position(|member| name == member.name.as_slice())
 }
 
 impl Set {
@@ -102,6 +111,7 @@ impl Set {
     /// The dimension of its vectors.
     pub fn dim(&self) -> u32
         ensures value { result ≡ self.now.1.dim }
+        ensures kept { IsKept self.now.1.dim self.now.1.members }
         ensures some { 1 ≤ result }
         ensures few { result ≤ 32768 }
     {
@@ -120,10 +130,7 @@ impl Set {
         ensures some { is_some result ≡ is_member name.now self.now.1.members }
         ensures at { IfSome result (λ place. IsAt name.now place self.now.1.members) }
     {
-        let place = self
-            .members
-            .iter()
-            .position(|member| member.name.as_slice() == name)?;
+        let place = place_among(self.members.as_slice(), name)?;
         Some(place as u32)
     }
 
@@ -155,11 +162,8 @@ impl Set {
     {
         let member = &mut self.members[place as usize];
         member.bits = add.bits;
+        member.attr = attribute_after(add.attr, member.attr.take());
         member.level = level_of_word(word);
-        match add.attr {
-            None => {}
-            Some(text) => member.attr = attribute_after(Some(text), None),
-        }
         self.cut = number;
     }
 
