@@ -5,17 +5,18 @@
 use Rattle.std.proofs.Common.{◌≡◌, ℕ, ◌+◌, ◌-◌, ◌<◌, Bool, true, false, cond, List, [], ◌∷◌, Option, Some, None, length, get_or, take, set, map, refl, sym, ap, ◌∙◌, arith}
 use Rattle.std.specs.Prelude.{slice_get}
 use Rattle.std.specs.List.{swap_remove, take-map}
+use Rattle.std.proofs.Common.{◌++◌, ◌^◌}
 use Rattle.std.proofs.Math.ListN.{get_or-map as map_read}
-use Rattle.std.proofs.lemmas.List.{get_or-map, length-map, map-set}
+use Rattle.std.proofs.lemmas.List.{get_or-map, length-map, map-append, map-set}
 use Rattle.std.proofs.lemmas.Option.{get_or_from_slice_get}
 use Rattle.vs_defs.specs.Bytes.{Bytes}
-use Rattle.vs_defs.specs.PlainStep.{with_attr}
+use Rattle.vs_defs.specs.PlainStep.{with_attr, unless_empty}
 use Rattle.vs_defs.specs.Store as model
-use Rattle.vs_defs.specs.Store.{HasNamesOnce, with_replaced, without_member}
+use Rattle.vs_defs.specs.Store.{Contents, HasNamesOnce, is_member, with_replaced, without_member}
 use Rattle.vs_plain_set.specs.declared.member.Member.{Member}
 use Rattle.vs_plain_set.specs.Kept.{IsKept}
 use Rattle.vs_plain_set.specs.Seen.{member_seen}
-use Rattle.vs_plain_set.proofs.Kept.{kept_set}
+use Rattle.vs_plain_set.proofs.Kept.{kept_pushed, kept_set, kept_removed}
 use Rattle.vs_plain_set.proofs.Places.{is_same, others, mapped_at, replaced_at, removed_at}
 
 abbrev pub seen : List Member → List model.Member
@@ -75,3 +76,21 @@ pub removed_is : (items : List Member) (i : ℕ) (d : Member) (z : model.Member)
     → seen (swap_remove items i d) ≡ without_member name (seen items)
 removed_is items i d z name once g named =
     seen_removed items i d ∙ sym (removed_at name (seen items) i z (member_seen d) g (is_same name z named) (others (seen items) once name i z g named))
+
+pub seen_pushed : (items : List Member) (y : Member) → seen (items ++ y ∷ []) ≡ seen items ++ member_seen y ∷ []
+seen_pushed items y = map-append member_seen items (y ∷ [])
+
+pub kept_seen_pushed : (dim : ℕ) (items : List Member) (y : Member) → IsKept dim (seen items) → length y.bits ≡ dim → is_member y.name (seen items) ≡ false → length (seen items) < 4294967295
+    → IsKept dim (seen (items ++ y ∷ []))
+kept_seen_pushed dim items y h bits new room =
+    let next : IsKept dim (seen items ++ member_seen y ∷ []) = kept_pushed dim (seen items) (member_seen y) h bits new room in
+    rw seen_pushed next
+
+pub kept_seen_removed : (dim : ℕ) (items : List Member) (i : ℕ) (d : Member) → IsKept dim (seen items) → i < length (seen items) → 1 < length (seen items) → IsKept dim (seen (swap_remove items i d))
+kept_seen_removed dim items i d h lt more =
+    let next : IsKept dim (swap_remove (seen items) i (member_seen d)) = kept_removed dim (seen items) i (member_seen d) h lt more in
+    rw seen_removed next
+
+pub unless_empty_some : (x : Contents) (ms : List model.Member) → 0 < length ms → unless_empty x ms ≡ Some (record { dim = x.dim; m = x.m; cut = x.cut; members = ms })
+unless_empty_some x [] h = absurd (omega arith)
+unless_empty_some x (y ∷ ys) h = refl

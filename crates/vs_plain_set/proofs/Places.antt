@@ -56,6 +56,12 @@ found_at name (y ∷ ys) zero x g t o = cond-true (is_of_name name y) (Some y) (
 found_at name (y ∷ ys) (suc i) x g t o =
     cond-false (is_of_name name y) (Some y) (member_of name ys) (others_first name i y ys o) ∙ found_at name ys i x g t (others_tail name i y ys o)
 
+-- the member that stands at the place is the name's
+abbrev pub member_there : (name : Bytes) (ms : List Member) (i : ℕ) → HasNamesOnce ms → IsAt name i ms → (x : Member) × (slice_get ms i ≡ Some x) × (x.name ≡ name) × (member_of name ms ≡ Some x)
+member_there name ms i once h =
+    let at = at_place (slice_get ms i) name h in
+    (at.0, at.1, at.2, found_at name ms i at.0 at.1 (is_same name at.0 at.2) (others ms once name i at.0 at.1 at.2))
+
 pub replaced_at : (x : Member) (ms : List Member) (i : ℕ) (y : Member) → slice_get ms i ≡ Some y → is_of_name x.name y ≡ true → AreOthers x.name i ms → with_replaced x ms ≡ set ms i x
 replaced_at x [] i y g t o = absurd (none-some y g)
 replaced_at x (z ∷ zs) zero y g t o = cond-true (is_of_name x.name z) (x ∷ zs) (z ∷ with_replaced x zs) (ap (is_of_name x.name) (same_Some z y g) ∙ t)
