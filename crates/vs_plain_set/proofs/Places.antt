@@ -5,7 +5,9 @@
 --     mapped_at              a change of it alone is put at its place
 --     removed_at             its removal puts the last member at its place
 --     a_place, no_place      what the place of a name tells
-use Rattle.std.proofs.Common.{◌≡◌, ◌≢◌, ℕ, zero, suc, ◌+◌, ◌-◌, ◌<◌, ◌≤◌, Bool, true, false, cond, List, [], ◌∷◌, Option, Some, None, length, get_or, take, set, map, refl, sym, ap, ◌∙◌, arith, inl, inr, IsSomeAnd, is_some, position}
+--     find-map, name_there   the member of a name among those that are seen; the name at a place
+--     found_has              what holds of each member holds of the one that is found
+use Rattle.std.proofs.Common.{◌≡◌, ◌≢◌, ℕ, zero, suc, ◌+◌, ◌-◌, ◌<◌, ◌≤◌, Bool, true, false, cond, List, [], ◌∷◌, Option, Some, None, length, get_or, take, set, map, refl, sym, ap, ◌∙◌, arith, inl, inr, IsSomeAnd, All, find, option_map, is_some, position, subst}
 use Rattle.std.specs.Prelude.{slice_get}
 use Rattle.std.specs.List.{swap_remove, position_or_len}
 use Rattle.std.proofs.Common.{ltb, not}
@@ -17,7 +19,8 @@ use Rattle.std.proofs.lemmas.List.Folds.{find_at}
 use Rattle.std.proofs.lemmas.List.Quantifiers.{position-Some}
 use Rattle.std.proofs.lemmas.Slice.Eq.{bytes_eq-Decides}
 use Rattle.vs_defs.specs.Bytes.{Bytes, last_in}
-use Rattle.vs_defs.specs.Store.{Member, is_of_name, is_member, member_of, with_replaced, without_member, put_last_at, HasNamesOnce}
+use Rattle.vs_defs.specs.Draws.{name_at}
+use Rattle.vs_defs.specs.Store.{Member, names_of, is_of_name, is_member, member_of, with_replaced, without_member, put_last_at, HasNamesOnce}
 use Rattle.vs_plain_set.specs.Kept.{IsAt}
 
 abbrev pub at_place : (o : Option Member) (name : Bytes) → IsSomeAnd o (λ x. x.name ≡ name) → (x : Member) × (o ≡ Some x) × (x.name ≡ name)
@@ -128,9 +131,14 @@ removed_at name ms i x d g t o =
 
 -- ---- the place of a name
 
-stands : (name : Bytes) (o : Option Member) (x : Member) → o ≡ Some x → x.name ≡ name → IsSomeAnd o (λ y. y.name ≡ name)
+pub stands : (name : Bytes) (o : Option Member) (x : Member) → o ≡ Some x → x.name ≡ name → IsSomeAnd o (λ y. y.name ≡ name)
 stands name None x e h = absurd (none-some x e)
 stands name (Some y) x e h = ap (λ (z : Member). z.name) (same_Some y x e) ∙ h
+
+pub moved : (name : Bytes) (o p : Option Member) → o ≡ p → IsSomeAnd p (λ y. y.name ≡ name) → IsSomeAnd o (λ y. y.name ≡ name)
+moved name o p e h =
+    let at = at_place p name h in
+    stands name o at.0 (e ∙ at.1) at.2
 
 a_member : Member
 a_member = record { name = []; bits = []; attr = None; level = 0 }
@@ -160,3 +168,22 @@ position_or_len-map p f (x ∷ xs) = ap (λ n. cond (not (p (f x))) (1 + n) 0) (
 pub position-map : {X : Type 0} (p : Member → Bool) (f : X → Member) (xs : List X) → position p (map f xs) ≡ position (λ x. p (f x)) xs
 position-map p f xs =
     (λ t. cond (ltb (position_or_len-map p f xs t) (length-map xs f t)) (Some (position_or_len-map p f xs t)) None)
+
+pub find-map : {X : Type 0} (p : Member → Bool) (f : X → Member) (xs : List X) → find p (map f xs) ≡ option_map f (find (λ x. p (f x)) xs)
+find-map p f [] = refl
+find-map {X} p f (x ∷ xs) = by (p (f x)) (find-map p f xs)
+  where
+    by : (b : Bool) → find p (map f xs) ≡ option_map f (find (λ x. p (f x)) xs) → cond b (Some (f x)) (find p (map f xs)) ≡ option_map f (cond b (Some x) (find (λ x. p (f x)) xs))
+    by true h = refl
+    by false h = h
+
+pub name_there : (ms : List Member) (i : ℕ) (name : Bytes) → IsSomeAnd (slice_get ms i) (λ y. name ≡ y.name) → name_at i (names_of ms) ≡ name
+name_there [] i name h = absurd h
+name_there (y ∷ ys) zero name h = sym h
+name_there (y ∷ ys) (suc i) name h = name_there ys i name h
+
+pub found_has : (P : Member → Type 0) (name : Bytes) (ms : List Member) (x : Member) → All P ms → member_of name ms ≡ Some x → P x
+found_has P name ms x h e =
+    let n : ℕ = position_or_len (is_of_name name) ms in
+    let g : slice_get ms n ≡ Some x = sym (find_at (is_of_name name) ms) ∙ e in
+    subst P (get_or_from_slice_get ms n x x g) (h n x (slice_get_within ms n x g))

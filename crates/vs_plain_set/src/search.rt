@@ -32,14 +32,15 @@ fn query<'a>(set: &'a Set, what: &'a What) -> Result<&'a Bits, Refusal>
     ensures unrefused { IfOk result (λ bits. search_refusal (what_of what.now) (Some set.now.1) ≡ None) }
     ensures refused { IfErr result (λ e. IfSome (refusal_of e) (λ cause. search_refusal (what_of what.now) (Some set.now.1) ≡ Some cause)) }
 {
+    let dim = set.dim();
     match what {
-        What::Ele(name) => match set.place_of(name.as_slice()) {
+        What::Ele(name) => match set.member(name.as_slice()) {
             None => Err(Refusal::NoSuchElement),
-            Some(place) => Ok(set.vector(place)),
+            Some(member) => Ok(&member.bits),
         },
-        What::Values(bits) if bits.dim() != set.dim() => Err(Refusal::WrongDimension {
+        What::Values(bits) if bits.dim() != dim => Err(Refusal::WrongDimension {
             given: bits.dim(),
-            has: set.dim(),
+            has: dim,
         }),
         What::Values(bits) => Ok(bits),
     }

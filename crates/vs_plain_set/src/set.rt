@@ -1,5 +1,6 @@
 //! The set, its changes, and what it tells of a member.
-ghost use Rattle.std.specs.Prelude.{◌≡◌, ℕ, ◌<◌, ◌≤◌, ◌∷◌, [], true, false, pos, is_some, length, map, position, slice_get, Some, None, IfOk, IfSome, IsSomeAnd, OnOk, OnErr};
+ghost use Rattle.std.specs.Prelude.{◌≡◌, ℕ, ◌<◌, ◌≤◌, ◌∷◌, [], true, false, pos, is_some, find, length, map, option_map, position, Some, None, IfOk, IfSome, OnOk, OnErr};
+ghost use Rattle.std.specs.Option.{option_copied};
 ghost use Rattle.vs_defs.specs.Bytes.{Bytes, same_name};
 ghost use Rattle.vs_defs.specs.PlainAnswer.{at_member, bulk_or_null};
 ghost use Rattle.vs_defs.specs.PlainStep.{new_set, added_to, removed, attributed};
@@ -56,6 +57,14 @@ fn signs_of(alloc: Global, bits: &Bits) -> Result<List<bool>, NoMemory>
     Ok(List::from_vec(signs))
 }
 
+fn member_among<'a>(members: &'a [Member], name: &[u8]) -> Option<&'a Member>
+    ensures { option_copied result ≡ find (λ member. is_of_name name.now (member_seen member)) members.now }
+{
+    members
+        .iter()
+        .find(|member| name == member.name.as_slice())
+}
+
 fn place_among(members: &[Member], name: &[u8]) -> Option<usize>
     ensures { result ≡ position (λ member. is_of_name name.now (member_seen member)) members.now }
 {
@@ -88,17 +97,17 @@ impl Set {
 
     // How many members.
     pub(crate) fn size(&self) -> u32
-        ensures { result ≡ length self.now.1.members }
+        ensures value { result ≡ length self.now.1.members }
+        ensures some { 0 < result }
     {
         self.members.len() as u32
     }
 
-    // The vector of the member at this place.
-    pub(crate) fn vector(&self, place: u32) -> &Bits
-        requires { place < length self.now.1.members }
-        ensures { IsSomeAnd (slice_get self.now.1.members place) (λ member. result.now ≡ member.bits) }
+    // The member of this name.
+    pub(crate) fn member(&self, name: &[u8]) -> Option<&Member>
+        ensures { option_map member_seen (option_copied result) ≡ member_of name.now self.now.1.members }
     {
-        &self.members[place as usize].bits
+        member_among(self.members.as_slice(), name)
     }
 
     /// Whether it is the set of this key.
@@ -195,20 +204,20 @@ impl Set {
     pub fn embedding(&self, alloc: Global, name: &[u8]) -> Result<Answer, NoMemory>
         ensures { IfOk result (λ answer. answer_of answer ≡ at_member (Some self.now.1) name.now request.NullList (λ y. request.Signs y.bits)) }
     {
-        let Some(place) = self.place_of(name) else {
-            return Ok(Answer::NullList);
-        };
-        Ok(Answer::Signs(signs_of(alloc, self.vector(place))?))
+        match self.member(name) {
+            None => Ok(Answer::NullList),
+            Some(member) => Ok(Answer::Signs(signs_of(alloc, &member.bits)?)),
+        }
     }
 
     /// A member's attribute, for VGETATTR.
     pub fn attribute(&self, name: &[u8]) -> Result<Answer, NoMemory>
         ensures { IfOk result (λ answer. answer_of answer ≡ at_member (Some self.now.1) name.now request.NullText (λ y. bulk_or_null y.attr)) }
     {
-        let Some(place) = self.place_of(name) else {
+        let Some(member) = self.member(name) else {
             return Ok(Answer::NullText);
         };
-        match &self.members[place as usize].attr {
+        match &member.attr {
             None => Ok(Answer::NullText),
             Some(text) => Ok(Answer::Bulk(text.try_clone()?)),
         }
