@@ -5,5 +5,7 @@ mod member;
 mod pick;
 mod search;
 mod set;
+#[cfg(test)]
+mod tests;
 
 pub use set::Set;

@@ -43,7 +43,12 @@ impl Set {
     }
 
     /// What VRANDMEMBER answers by these drawn words: names in the order of the picks, or one name where there is no count.
-    pub fn random(&self, alloc: Global, count: Option<i32>, words: &[u32]) -> Result<Answer, NoMemory>
+    pub fn random(
+        &self,
+        alloc: Global,
+        count: Option<i32>,
+        words: &[u32],
+    ) -> Result<Answer, NoMemory>
         requires { length words.now ≡ draws_of (request.Vrandmember [] count) }
         ensures { IfOk result (λ answer. answer_of answer ≡ random_of count words.now self.now.1) }
     {

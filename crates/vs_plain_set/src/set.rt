@@ -60,9 +60,7 @@ fn signs_of(alloc: Global, bits: &Bits) -> Result<List<bool>, NoMemory>
 fn member_among<'a>(members: &'a [Member], name: &[u8]) -> Option<&'a Member>
     ensures { option_copied result ≡ find (λ member. is_of_name name.now (member_seen member)) members.now }
 {
-    members
-        .iter()
-        .find(|member| name == member.name.as_slice())
+    members.iter().find(|member| name == member.name.as_slice())
 }
 
 fn place_among(members: &[Member], name: &[u8]) -> Option<usize>

@@ -40,7 +40,8 @@ returns-clause-scores c =
     let members = c.args.self.now.1.members in
     let are = c.in_ok-hits.ensures None (search rules) in
     let named : hits_of c.in_ok-named.field-0 ≡ map (truth.hit_of q attrs) (truth.nearest count q None members)
-    = c.in_ok-named.ensures ∙ ap (map (hit_at attrs members)) c.as_slice.ensures ∙ named_is attrs q members (truth.nearest count q None members) c.in_ok-hits.hits are.places are.dists in
-    ((c.dim-dim.ensures.some, c.dim-dim.ensures.few),
+    = c.in_ok-named.ensures ∙ ap (map (hit_at attrs members)) c.as_slice.ensures ∙ named_is attrs q members (truth.nearest count q None members) c.in_ok-hits.hits are.places are.dists in (
+      (c.dim-dim.ensures.some, c.dim-dim.ensures.few),
       All-weaker (λ (h : NamedHit). h.dist ≤ length q) (λ (h : NamedHit). h.dist ≤ c.dim-dim.result) (λ h le. omega (arith, le, c.in_ok-query.ensures.dim, c.dim-dim.ensures.value)) c.in_ok-named.field-0
-      (all_few attrs q (truth.nearest count q None members) c.in_ok-named.field-0 named))
+          (all_few attrs q (truth.nearest count q None members) c.in_ok-named.field-0 named),
+    )
