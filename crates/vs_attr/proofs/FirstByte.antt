@@ -11,7 +11,7 @@ use Rattle.vs_defs.specs.Decimal.{read_fixed}
 use Rattle.vs_defs.specs.Json as json
 use Rattle.vs_defs.specs.Json.{Json, Items, Members, Front, Piece, bytes_of, mark_at, skip_space, plain_value_at, word_at, or_front, number_at, after_number, whole_value, value_within}
 use Rattle.vs_defs.specs.AttributeField as field
-use Rattle.vs_defs.specs.AttributeField.{Single, NoKind, single_of, singles_of, field_of_value, number_field, text_field, member_value, option_field, field_of}
+use Rattle.vs_defs.specs.AttributeField.{is_object, is_object_of, is_object_value, Single, NoKind, single_of, singles_of, field_of_value, number_field, text_field, member_value, option_field, field_of}
 use Rattle.vs_attr.specs.Reading.{pieces_at, value_at, items_at, members_at, rest_of, value_of, string_at, text_at, array_at, object_at, value_from}
 use Rattle.vs_attr.specs.Listed.{items_from, items_left, AreItems, begun, items_inside, IsArrayInside, item_next}
 use Rattle.vs_attr.specs.Fields.{named_in, found_whole, member_found, number_single, plain_single, single_from}
@@ -63,7 +63,7 @@ or_none : {A : Type 0} (o : Front A) → or_front o None ≡ o
 or_none None = refl
 or_none (Some p) = refl
 
-head_is : (c b : ℕ) → (c == b) ≡ true → c ≡ b
+pub head_is : (c b : ℕ) → (c == b) ≡ true → c ≡ b
 head_is c b h = grind (arith, nat_tests)
 
 head_other : (c b : ℕ) → (c == b) ≡ false → nat_eq b c ≡ false
@@ -78,7 +78,7 @@ plain_true c cs e = let h : c ≡ 116 = head_is c 116 e in rw h (or_none _)
 plain_false : (c : ℕ) (cs : Bytes) → (c == 102) ≡ true → plain_value_at (c ∷ cs) ≡ word_at (codes "false") (json.Truth false) (c ∷ cs)
 plain_false c cs e = let h : c ≡ 102 = head_is c 102 e in rw h (or_none _)
 
-plain_number : (c : ℕ) (cs : Bytes) → (c == 110) ≡ false → (c == 116) ≡ false → (c == 102) ≡ false → plain_value_at (c ∷ cs) ≡ number_at (c ∷ cs)
+pub plain_number : (c : ℕ) (cs : Bytes) → (c == 110) ≡ false → (c == 116) ≡ false → (c == 102) ≡ false → plain_value_at (c ∷ cs) ≡ number_at (c ∷ cs)
 plain_number c cs n r f =
     let a : nat_eq 110 c ≡ false = head_other c 110 n in
     let b : nat_eq 116 c ≡ false = head_other c 116 r in
@@ -161,7 +161,7 @@ head_hit_by : (b c : ℕ) (cs inside : Bytes) (v : Bool) → (c == b) ≡ v → 
 head_hit_by b c cs inside true h e = let g : cs ≡ inside = cc in rw (head_is c b h, g) refl
 head_hit_by b c cs inside false h e = absurd (cc)
 
-head_hit : (b : ℕ) (s inside : Bytes) → cond (begins_with b s) (Some (drop 1 s)) None ≡ Some inside → s ≡ b ∷ inside
+pub head_hit : (b : ℕ) (s inside : Bytes) → cond (begins_with b s) (Some (drop 1 s)) None ≡ Some inside → s ≡ b ∷ inside
 head_hit b [] inside e = absurd (cc)
 head_hit b (c ∷ cs) inside e = head_hit_by b c cs inside (c == b) refl e
 
@@ -326,3 +326,52 @@ field_not_utf8 text name u =
 pub option_field_is : (o : Option Json) → option_map field_of_value o ≡ option_field o
 option_field_is None = refl
 option_field_is (Some j) = refl
+
+-- ---- whether a whole text is an object
+
+not_object_value_from : (d : ℕ) (s : Bytes) → cond (begins_with 123 s) (Some (drop 1 s)) None ≡ None → OnRead (λ j. is_object_value j ≡ false) (value_from d s)
+not_object_value_from d [] e = tt
+not_object_value_from d (c ∷ cs) e =
+    let n : (c == 123) ≡ false = none_by 123 c cs (c == 123) e in
+    rw n (elim (c == 34) as (λ v. OnRead (λ j. is_object_value j ≡ false) (cond v (text_at cs) (cond (c == 91) (array_at d cs) (plain_value_at (c ∷ cs))))) [
+      | true ↦ OnRead-map (λ j. is_object_value j ≡ false) (λ ps. json.Text (bytes_of ps)) (pieces_at cs) (λ ps. refl)
+      | false ↦ elim (c == 91) as (λ v. OnRead (λ j. is_object_value j ≡ false) (cond v (array_at d cs) (plain_value_at (c ∷ cs)))) [
+        | true ↦ array_read (λ j. is_object_value j ≡ false) (λ js. refl) d cs
+        | false ↦ plain_read (λ j. is_object_value j ≡ false) (c ∷ cs) refl (λ b. refl) (λ n. refl)
+      ]
+    ])
+
+whole_other : (o : Front Json) → OnRead (λ j. is_object_value j ≡ false) o → is_object_of (whole_value o) ≡ false
+whole_other None h = refl
+whole_other (Some p) h = elim (is_empty (skip_space p.1)) as (λ v. is_object_of (cond v (Some p.0) None) ≡ false) [ true ↦ h | false ↦ refl ]
+
+object_whole : (text : Bytes) → is_utf8 text ≡ true → is_object_of (whole_value (value_at 64 text)) ≡ is_object text
+object_whole text u =
+    sym (ap (λ v. is_object_of (elim v [ true ↦ whole_value (value_within (2 * length text + 2) 64 text) | false ↦ None ])) u
+    ∙ ap (λ o. is_object_of (whole_value o)) (value_whole 64 text))
+
+pub object_not_utf8 : (text : Bytes) → is_utf8 text ≡ false → false ≡ is_object text
+object_not_utf8 text u =
+    sym (ap (λ v. is_object_of (elim v [ true ↦ whole_value (value_within (2 * length text + 2) 64 text) | false ↦ None ])) u)
+
+pub object_none : (text : Bytes) → is_utf8 text ≡ true → mark_at 123 text ≡ None → false ≡ is_object text
+object_none text u m =
+    sym (whole_other (value_at 64 text) (subst (OnRead (λ j. is_object_value j ≡ false)) (sym (value_from_is 64 text)) (not_object_value_from 64 (skip_space text) m)))
+    ∙ object_whole text u
+
+whole_rest : (o : Front Json) (rest : Option Bytes) → OnRead (λ j. is_object_value j ≡ true) o → rest_of o ≡ rest
+    → elim rest [ Some r ↦ is_empty (skip_space r) | None ↦ false ] ≡ is_object_of (whole_value o)
+whole_rest None rest h e = sym (ap (λ (r : Option Bytes). elim r [ Some s ↦ is_empty (skip_space s) | None ↦ false ]) e)
+whole_rest (Some p) rest h e =
+    sym (ap (λ (r : Option Bytes). elim r [ Some s ↦ is_empty (skip_space s) | None ↦ false ]) e)
+    ∙ elim (is_empty (skip_space p.1)) as (λ v. v ≡ is_object_of (cond v (Some p.0) None)) [ true ↦ sym h | false ↦ refl ]
+
+object_here : (text inside : Bytes) → mark_at 123 text ≡ Some inside → OnRead (λ j. is_object_value j ≡ true) (value_at 64 text)
+object_here text inside m = subst (OnRead (λ j. is_object_value j ≡ true)) (sym (value_object 64 text inside m)) (object_read (λ j. is_object_value j ≡ true) (λ ms. refl) 64 inside)
+
+pub object_end : (text inside rest : Bytes) → is_utf8 text ≡ true → mark_at 123 text ≡ Some inside → rest_of (value_at 64 text) ≡ Some rest
+    → is_empty (skip_space rest) ≡ is_object text
+object_end text inside rest u m e = whole_rest (value_at 64 text) (Some rest) (object_here text inside m) e ∙ object_whole text u
+
+pub object_cut : (text inside : Bytes) → is_utf8 text ≡ true → mark_at 123 text ≡ Some inside → rest_of (value_at 64 text) ≡ None → false ≡ is_object text
+object_cut text inside u m e = whole_rest (value_at 64 text) None (object_here text inside m) e ∙ object_whole text u

@@ -1,7 +1,9 @@
 pub mod Bodies
+pub mod DerivedIsRead
 pub mod FirstByte
 pub mod Lengths
 pub mod Names
+pub mod ReadIsDerived
 pub mod Strings
 pub mod Turns
 pub mod Values

@@ -14,7 +14,7 @@ pieces_end cs = pieces_is (34 ∷ cs)
 pub text_end_last : (cs : Bytes) → rest_of (pieces_at (34 ∷ cs)) ≡ Some cs
 text_end_last cs = ap rest_of (pieces_is (34 ∷ cs))
 
-abbrev inner_by : Bool → Front Piece → Front Piece
+abbrev pub inner_by : Bool → Front Piece → Front Piece
 inner_by v o = elim v [ true ↦ None | false ↦ o ]
 
 inner_begins : (v : Bool) (o : Front Piece) (p : Piece × Bytes) → inner_by v o ≡ Some p → (v ≡ false) × (o ≡ Some p)

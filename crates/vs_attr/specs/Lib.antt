@@ -1,4 +1,5 @@
+pub mod Fields
+pub mod Grammar
+pub mod Listed
 pub mod Reading
 pub mod Seen
-pub mod Listed
-pub mod Fields

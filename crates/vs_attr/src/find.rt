@@ -3,7 +3,7 @@
 
 ghost use Rattle.std.specs.Prelude.{◌≡◌, cond, Some, None, IsSome, IfSome, option_map, option_copied};
 ghost use Rattle.std.specs.Str.{is_utf8 as is_utf8_text};
-ghost use Rattle.vs_defs.specs.AttributeField.{field_of_value, field_of};
+ghost use Rattle.vs_defs.specs.AttributeField.{field_of_value, field_of, is_object as is_object_text};
 ghost use Rattle.vs_attr.specs.Reading.{value_at, members_at, value_of};
 ghost use Rattle.vs_attr.specs.Fields.{field_seen, found_value, found_seen, named_in, member_found, found_whole, IsReadable};
 
@@ -17,6 +17,9 @@ use std::str;
 /// How many objects and arrays may be open in a member's value: 64 at most in
 /// the whole text.
 const MEMBER_DEPTH: u32 = 63;
+
+/// How many objects and arrays may be open in a text.
+const TEXT_DEPTH: u32 = 64;
 
 /// The value of a member, which stands in front.
 fn member_value<'a>(text: &'a [u8]) -> Field<'a>
@@ -103,4 +106,21 @@ pub fn field<'a>(text: &'a [u8], name: &[u8]) -> Option<Field<'a>>
     }
     let value = member_in(text, name)?;
     Some(member_value(value))
+}
+
+/// Whether a text is a JSON object (RFC 8259, in valid UTF-8, with no more
+/// than 64 objects and arrays within one another).
+pub fn is_object(text: &[u8]) -> bool
+    ensures { result ≡ is_object_text text.now }
+{
+    if !is_utf8(text) {
+        return false;
+    }
+    let Some(_) = mark_at(b'{', text) else {
+        return false;
+    };
+    match value_end(TEXT_DEPTH, text) {
+        Some(rest) => skip_space(rest).is_empty(),
+        None => false,
+    }
 }

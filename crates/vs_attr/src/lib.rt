@@ -3,6 +3,7 @@
 
 mod find;
 mod kind;
+mod law;
 mod list;
 mod number;
 mod piece;
@@ -10,8 +11,9 @@ mod space;
 mod text;
 mod value;
 
-pub use find::field;
+pub use find::{field, is_object};
 pub use kind::Field;
+pub use law::json_is_what_is_derived;
 pub use list::JsonList;
 pub use text::JsonText;
 

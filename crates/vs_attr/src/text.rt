@@ -155,6 +155,15 @@ impl Pending {
         }
     }
 
+    fn copied(&self) -> Pending
+        ensures { result ≡ self.now }
+    {
+        Pending {
+            bytes: self.bytes,
+            left: self.left,
+        }
+    }
+
     fn next(&mut self) -> Option<u8>
         ensures value { result ≡ first_in self.old }
         ensures rest { self.new ≡ drop 1 self.old }
@@ -217,6 +226,16 @@ impl<'a> JsonText<'a> {
             raw,
             pending: Pending::none(),
         })
+    }
+
+    /// The same text, from the same byte on. It takes no memory.
+    pub fn copied(&self) -> JsonText<'a>
+        ensures { result ≡ self.now }
+    {
+        JsonText {
+            raw: self.raw,
+            pending: self.pending.copied(),
+        }
     }
 
     /// The next byte of the text, in UTF-8, or `None` at its end.

@@ -1,7 +1,7 @@
 //! Numbers with at most nine decimals.
 #![tactic(auto)]
 
-ghost use Rattle.std.specs.Prelude.{◌≡◌, ◌≤◌, ◌<◌, ◌^◌, ◌&&◌, true, cond, nat_le, nat_lt, Some, None, length};
+ghost use Rattle.std.specs.Prelude.{◌≡◌, ◌≤◌, ◌<◌, ◌^◌, ◌&&◌, true, cond, nat_le, nat_lt, Some, None, length, IfSome, unsigned_abs};
 ghost use Rattle.std.specs.List.{list_all};
 ghost use Rattle.std.specs.Char.{is_ascii_digit};
 ghost use Rattle.vs_defs.specs.Numeral.{without};
@@ -45,7 +45,8 @@ fn billionths(fraction: &[u8]) -> u64
 
 fn signed(negative: bool, size: u128) -> i128
     requires { size < 2 ^ 127 }
-    ensures { result ≡ negated negative size }
+    ensures value { result ≡ negated negative size }
+    ensures bound { unsigned_abs result ≡ size }
 {
     let value = size as i128;
     if negative { -value } else { value }
@@ -55,7 +56,8 @@ fn signed(negative: bool, size: u128) -> i128
 /// 1 to 18 digits, and optionally a point and 1 to 9 digits; `None` for any
 /// other text. This is the form of numbers in attributes and filters.
 pub fn read_fixed(text: &[u8]) -> Option<i128>
-    ensures { result ≡ fixed_in text.now }
+    ensures value { result ≡ fixed_in text.now }
+    ensures bound { IfSome result (λ number. unsigned_abs number < 2 ^ 127) }
 {
     let (whole, fraction) = split_digits(without_minus(text));
     if !is_digits_within(18, whole) || !is_fraction_part(fraction) {

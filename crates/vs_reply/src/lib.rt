@@ -5,6 +5,8 @@
 mod parts;
 mod reply;
 mod short;
+#[cfg(test)]
+mod tests;
 
 pub use reply::{Proto, reply_into};
 pub use short::{Short, fault_line, short_reply};

@@ -171,42 +171,46 @@ fn wrong_m(given: u16, has: u16) -> Short
     )
 }
 
+// An error line about a number of bytes that isn't allowed.
+fn sized(before: &[u8], len: u32, allowed: &[u8]) -> Short
+    requires { length before.now + length allowed.now ≤ 53 }
+    ensures { result ≡ error_line (with_number before.now len (codes " bytes, allowed are " ++ allowed.now)) }
+{
+    let mut buffer = Buffer::new();
+    let mut short = Short::new();
+    short.push(b"-");
+    short.push(before);
+    short.push(buffer.format(len).as_bytes());
+    short.push(b" bytes, allowed are ");
+    short.push(allowed);
+    short.push(b"\r\n");
+    short
+}
+
 fn refusal_line(refusal: Refusal) -> Short
     ensures { result ≡ reply (refused_by (refusal_of refusal)) }
 {
     match refusal {
         Refusal::UnknownCommand => plain(b"ERR unknown command"),
         Refusal::WrongArity => plain(b"ERR wrong number of arguments"),
-        Refusal::BadKey { len } => counted(b"ERR key has ", len, b" bytes, allowed are 1 to 1024"),
+        Refusal::BadKey { len } => sized(b"ERR key has ", len, b"1 to 1024"),
         Refusal::BadVectorForm { at } => at_word(at, b": vector form expected"),
         Refusal::Fp32 => plain(b"ERR FP32 is not supported"),
         Refusal::Reduce => plain(b"ERR REDUCE is not supported"),
         Refusal::BadDimension { at } => at_word(at, b": dimension 1 to 4096 expected"),
         Refusal::ShortVector { want, have } => short_vector(want, have),
         Refusal::BadComponent { at } => at_word(at, b": number expected"),
-        Refusal::BadName { len } => counted(
-            b"ERR name has ",
-            len,
-            b" bytes, allowed are 1 to 1024",
-        ),
+        Refusal::BadName { len } => sized(b"ERR name has ", len, b"1 to 1024"),
         Refusal::UnknownOption { at } => at_word(at, b": unknown option"),
         Refusal::MissingValue { at } => at_word(at, b": option needs a value"),
         Refusal::Quantiser { at } => at_word(at, b": only BIN is supported"),
         Refusal::BadEf { at } => at_word(at, b": EF 1 to 65536 expected"),
         Refusal::BadM { at } => at_word(at, b": M 4 to 256 expected"),
-        Refusal::LongAttribute { len } => counted(
-            b"ERR attribute has ",
-            len,
-            b" bytes, allowed are 16384",
-        ),
+        Refusal::LongAttribute { len } => sized(b"ERR attribute has ", len, b"16384"),
         Refusal::BadCount { at } => at_word(at, b": COUNT out of range"),
         Refusal::Epsilon { at } => at_word(at, b": EPSILON is not supported"),
         Refusal::BadFilterEf { at } => at_word(at, b": FILTER-EF 0 to 2147483647 expected"),
-        Refusal::LongFilter { len } => counted(
-            b"ERR filter has ",
-            len,
-            b" bytes, allowed are 4096",
-        ),
+        Refusal::LongFilter { len } => sized(b"ERR filter has ", len, b"4096"),
         Refusal::FilterSyntax { at } => counted(b"ERR filter syntax at byte ", at, b""),
         Refusal::FilterTooDeep { at } => counted(b"ERR filter nests too deep at byte ", at, b""),
         Refusal::Raw => plain(b"ERR RAW is not supported"),
