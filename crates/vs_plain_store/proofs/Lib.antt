@@ -1,0 +1,3 @@
+pub mod StoreCauses
+pub mod StoreCounts
+pub mod StoreEdits

@@ -1,0 +1,2 @@
+pub mod StoreKept
+pub mod StoreSeen
