@@ -10,6 +10,7 @@ use vs_hamming::distance;
 use vs_rank::Key;
 
 /// Where a descent stopped in each layer.
+#[derive(Drop)]
 pub struct Descent {
     /// The last stop, or the entry where its level is below the lowest layer asked for.
     pub start: u32,

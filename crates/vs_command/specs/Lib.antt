@@ -5,3 +5,4 @@ pub mod Requests
 pub mod Readings
 pub mod Words
 pub mod Options
+pub mod Scores

@@ -3,7 +3,7 @@ ghost use Rattle.std.specs.Prelude.{◌≡◌, ℕ, Bool, false, List, ◌++◌,
 ghost use Rattle.vs_defs.specs.Reply.{array_of, bulk, bulk_or_null, sign_text, hit_parts, hits_reply, info_reply, answer_reply};
 ghost use Rattle.vs_defs.specs.Request.{Hit};
 ghost use Rattle.vs_command.specs.Answers.{answer_of, hit_of, hits_of, info_of};
-ghost use Rattle.vs_reply.specs.Replies.{HasScores, Within};
+ghost use Rattle.vs_command.specs.Scores.{HasScores, Within};
 
 use crate::parts::{push_bulk, push_field, push_integer, push_line, push_number};
 use vs_command::{Answer, Info, NamedHit};

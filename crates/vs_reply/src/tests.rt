@@ -1,6 +1,6 @@
 //! Replies byte for byte, written out by hand from the tables of texts and of RESP2's framing.
 ghost use Rattle.std.specs.Prelude.{◌≡◌, ◌≤◌, All, IfOk};
-ghost use Rattle.vs_reply.specs.Replies.{HasScores};
+ghost use Rattle.vs_command.specs.Scores.{HasScores};
 
 use super::*;
 use std::alloc::Global;

@@ -11,3 +11,4 @@ pub use end::SessionEnd;
 pub use handler::{Handler, Replied};
 pub use random_words::{draw, generator};
 pub use serve::serve_by;
+pub use write::write_all;

@@ -1,0 +1,82 @@
+-- A change is answered by a number; so an answer with a long reply leaves the store as it was.
+use Rattle.std.proofs.Common.{◌≡◌, ℕ, ℤ, pos, inl, inr, List, Option, Some, None, Result, Ok, Err, refl, sym, ◌∙◌, length}
+use Rattle.std.specs.Prelude.{count_by}
+use Rattle.vs_defs.specs.Bytes.{Bytes, listed}
+use Rattle.vs_defs.specs.Reply.{reply}
+use Rattle.vs_defs.specs.Request as request
+use Rattle.vs_defs.specs.Store.{PlainStore, Contents, Member, set_of, member_of}
+use Rattle.vs_defs.specs.PlainStep.{changed, added, added_to, number_of_change}
+use Rattle.vs_defs.specs.PlainMachine.{PlainDoes}
+use Rattle.vs_command.specs.declared.answer.Answer.{Answer}
+use Rattle.vs_command.specs.declared.answer.Answer.TheVariants.{Int, Pong, Bye, Bulk, NullText, NullList, Names, Signs, Hits, Layers, Info as Informed}
+use Rattle.vs_command.specs.declared.refusal.Refusal.{Refusal}
+use Rattle.vs_command.specs.Answers.{answer_of}
+use Rattle.vs_command.specs.Outcomes.{outcome_of}
+use Rattle.vs_reply.specs.Replies.{short_of}
+
+abbrev IsNumber : request.Answer → Type 0
+IsNumber a = (n : ℤ) × (a ≡ request.Int n)
+
+added_to_number : (add : request.Add) (words : List ℕ) (number : ℕ) (x : Contents) (old : Option Member) → IsNumber (added_to add words number x old).1
+added_to_number add words number x None = (pos 1, refl)
+added_to_number add words number x (Some old) = (pos 0, refl)
+
+added_number : (add : request.Add) (words : List ℕ) (number : ℕ) (x : Option Contents) → IsNumber (added add words number x).1
+added_number add words number None = (pos 1, refl)
+added_number add words number (Some x) = added_to_number add words number x (member_of add.name x.members)
+
+changed_number : (s : PlainStore) (r : request.Request) (words : List ℕ) → IsNumber (changed s r words).1
+changed_number s (request.Vadd add) words = added_number add words (number_of_change s) (set_of add.key s)
+changed_number s (request.Vrem key name) words = (pos 1, refl)
+changed_number s (request.Vsetattr key name text) words = (pos 1, refl)
+changed_number s (request.Del keys) words = (pos (count_by (λ e. listed e.0 keys) s.sets), refl)
+changed_number s (request.Ping text) words = (pos 1, refl)
+changed_number s request.Quit words = (pos 1, refl)
+changed_number s (request.Exists keys) words = (pos 1, refl)
+changed_number s (request.Vsim search) words = (pos 1, refl)
+changed_number s (request.Vcard key) words = (pos 1, refl)
+changed_number s (request.Vdim key) words = (pos 1, refl)
+changed_number s (request.Vemb key name) words = (pos 1, refl)
+changed_number s (request.Vlinks key name scores) words = (pos 1, refl)
+changed_number s (request.Vinfo key) words = (pos 1, refl)
+changed_number s (request.Vgetattr key name) words = (pos 1, refl)
+changed_number s (request.Vrandmember key n) words = (pos 1, refl)
+changed_number s (request.Vismember key name) words = (pos 1, refl)
+
+-- an answer with a long reply is no number
+long_is_none : (a : Answer) → short_of (Ok a) ≡ None → IsNumber (answer_of a) → ⊥
+long_is_none (Int n) e i = absurd (cc)
+long_is_none Pong e i = absurd (cc)
+long_is_none Bye e i = absurd (cc)
+long_is_none (Bulk text) e (n, is) = absurd (cc)
+long_is_none NullText e i = absurd (cc)
+long_is_none NullList e i = absurd (cc)
+long_is_none (Names names) e (n, is) = absurd (cc)
+long_is_none (Signs signs) e (n, is) = absurd (cc)
+long_is_none (Hits dim scores attrs hits) e (n, is) = absurd (cc)
+long_is_none (Layers dim scores layers) e (n, is) = absurd (cc)
+long_is_none (Informed info) e (n, is) = absurd (cc)
+
+-- so want of memory may come in its place
+pub long_changes_nothing : (old new : PlainStore) (r : request.Request) (words : List ℕ) (result : Result Answer Refusal) →
+    PlainDoes old r words (outcome_of result) new → short_of result ≡ None → new ≡ old
+long_changes_nothing old new r words (Ok a) (inl c) long =
+    let n : IsNumber (changed old r words).1 = changed_number old r words in
+    absurd (long_is_none a long (n.0, c.step.answers ∙ n.1))
+long_changes_nothing old new r words (Ok a) (inr (same, answers)) long = same
+long_changes_nothing old new r words (Err e) does long = absurd (cc)
+
+-- a short reply is the outcome's reply
+pub short_is_reply : (x : Result Answer Refusal) (b : Bytes) → short_of x ≡ Some b → reply (outcome_of x) ≡ b
+short_is_reply (Ok (Int n)) b e = cc
+short_is_reply (Ok Pong) b e = cc
+short_is_reply (Ok Bye) b e = cc
+short_is_reply (Ok (Bulk text)) b e = absurd (cc)
+short_is_reply (Ok NullText) b e = cc
+short_is_reply (Ok NullList) b e = cc
+short_is_reply (Ok (Names names)) b e = absurd (cc)
+short_is_reply (Ok (Signs signs)) b e = absurd (cc)
+short_is_reply (Ok (Hits dim scores attrs hits)) b e = absurd (cc)
+short_is_reply (Ok (Layers dim scores layers)) b e = absurd (cc)
+short_is_reply (Ok (Informed info)) b e = absurd (cc)
+short_is_reply (Err e) b is = cc

@@ -1,0 +1,110 @@
+-- How a message was served, from what was read, drawn and done.
+use Rattle.std.proofs.Common.{◌≡◌, ℕ, zero, suc, length, Bool, true, false, List, Option, Some, None, Result, Ok, Err, refl, sym, ap, subst, ◌∙◌, inl, inr, cond}
+use Rattle.std.specs.Prelude.{IfSome, ◌&&◌, is_none}
+use Rattle.rand_pcg.specs.Lcg.{Lcg}
+use Rattle.vs_defs.specs.Request as request
+use Rattle.vs_defs.specs.Stream.{Message}
+use Rattle.vs_defs.specs.Bounds.{IsInBounds}
+use Rattle.vs_defs.specs.Reply.{Outcome}
+use Rattle.vs_defs.specs.Reply as outcome
+use Rattle.vs_defs.specs.Read.{read_by}
+use Rattle.vs_defs.specs.Stages.{is_plain, is_unfiltered, if_built, find_unfiltered_option}
+use Rattle.vs_defs.specs.Store.{PlainStore}
+use Rattle.vs_defs.specs.PlainMachine.{PlainHistory, PlainDoes}
+use Rattle.vs_session_defs.specs.Session as session
+use Rattle.rand_pcg.specs.Pcg.{pcg32}
+use Rattle.vs_session_defs.specs.Words.{drawn, after_draws}
+use Rattle.vs_command.specs.Outcomes.{refused_by}
+use Rattle.vs_session.specs.Stage.{Call, read, draws}
+use Rattle.vs_session.specs.Served.{IsServed}
+use Rattle.vs_session.proofs.Calls.{calls, Calls}
+use Rattle.vs_server.specs.After.{After}
+
+-- ---- what is read is built
+
+is_built_at : (test : request.Request → Bool) (b : Bool) (q r : request.Request) → test q ≡ b → cond b (Ok q) (Err request.NotBuilt) ≡ Ok r → test r ≡ true
+is_built_at test true q r is e = let same : q ≡ r = cc in ap test (sym same) ∙ is
+is_built_at test false q r is e = absurd (cc)
+
+is_built : (test : request.Request → Bool) (x : Result request.Request request.Refusal) (r : request.Request) → if_built test x ≡ Ok r → test r ≡ true
+is_built test (Ok q) r e = is_built_at test (test q) q r refl e
+is_built test (Err e) r is = absurd (cc)
+
+truth : (b c : Bool) → (b && c) ≡ true → b ≡ true
+truth true c e = refl
+truth false c e = absurd (cc)
+
+unfiltered_is_plain : (r : request.Request) → is_unfiltered r ≡ true → is_plain r ≡ true
+unfiltered_is_plain (request.Vsim s) e = truth s.truth (is_none s.filter) e
+unfiltered_is_plain (request.Ping text) e = refl
+unfiltered_is_plain request.Quit e = refl
+unfiltered_is_plain (request.Del keys) e = refl
+unfiltered_is_plain (request.Exists keys) e = refl
+unfiltered_is_plain (request.Vadd add) e = refl
+unfiltered_is_plain (request.Vrem key name) e = refl
+unfiltered_is_plain (request.Vcard key) e = refl
+unfiltered_is_plain (request.Vdim key) e = refl
+unfiltered_is_plain (request.Vemb key name) e = refl
+unfiltered_is_plain (request.Vlinks key name scores) e = absurd (cc)
+unfiltered_is_plain (request.Vinfo key) e = absurd (cc)
+unfiltered_is_plain (request.Vgetattr key name) e = refl
+unfiltered_is_plain (request.Vsetattr key name text) e = refl
+unfiltered_is_plain (request.Vrandmember key n) e = refl
+unfiltered_is_plain (request.Vismember key name) e = refl
+
+pub read_is_plain : (message : Message) (r : request.Request) → read message ≡ Ok r → is_plain r ≡ true
+read_is_plain message r e = unfiltered_is_plain r (is_built is_unfiltered (read_by find_unfiltered_option message) r e)
+
+-- ---- what is drawn
+
+pub length_drawn : (n : ℕ) (g : Lcg) → length (drawn n g) ≡ n
+length_drawn zero g = refl
+length_drawn (suc n) g = ap suc (length_drawn n (pcg32 g).1)
+
+-- ---- the ways in which a message is served
+
+abbrev pub Serving : PlainStore → Lcg → Outcome → Lcg → PlainHistory → Message → Type 0
+Serving store gen o g h message = IsServed (After store gen) (λ p. p ≡ o) g h message
+
+pub starved : (store : PlainStore) (gen : Lcg) (message : Message) (h : PlainHistory) (g : Lcg) → After store gen h g → Serving store gen outcome.OutOfMemory g h message
+starved store gen message h g after = (outcome.OutOfMemory, h, g, inr (refl, refl, refl), after, after.stored.own, refl)
+
+refused : (store : PlainStore) (gen : Lcg) (message : Message) (cause : request.Refusal) → read message ≡ Err cause → (h : PlainHistory) (g : Lcg) → After store gen h g →
+    Serving store gen (outcome.Refused cause) g h message
+refused store gen message cause is h g after = (
+  outcome.Refused cause,
+  h,
+  g,
+  inl (subst (λ (x : Result request.Request request.Refusal). session.ServesRead Call true read draws 0 g h x (outcome.Refused cause) h g) (sym is) (refl, refl, refl)),
+  after,
+  after.stored.own,
+  refl,
+)
+
+-- a message that was refused, or for whose reading there was no memory
+pub not_read : (store : PlainStore) (gen : Lcg) (message : Message) (cause : Option request.Refusal) → IfSome cause (λ c. read message ≡ Err c) → (h : PlainHistory) (g : Lcg) →
+    After store gen h g → Serving store gen (refused_by cause) g h message
+not_read store gen message None is h g after = starved store gen message h g after
+not_read store gen message (Some cause) is h g after = refused store gen message cause is h g after
+
+-- a request that was carried out
+pub carried_out : (old new : PlainStore) (gen gen' : Lcg) (message : Message) (r : request.Request) (words : List ℕ) (o : Outcome) → read message ≡ Ok r → IsInBounds r →
+    words ≡ drawn (draws r) gen → gen' ≡ after_draws (draws r) gen → PlainDoes old r words o new → (h : PlainHistory) (g : Lcg) → After old gen h g → Serving new gen' o g h message
+carried_out old new gen gen' message r words o is bounds words_are moved does h g after =
+    let call : Calls h r (drawn (draws r) g) o new =
+    calls old new h r (drawn (draws r) g) o after.stored bounds
+    (subst (λ (x : List ℕ). PlainDoes old r x o new) (words_are ∙ ap (λ (x : Lcg). drawn (draws r) x) after.words) does)
+    in (
+      o,
+      call.0,
+      after_draws (draws r) g,
+      inl (subst (λ (x : Result request.Request request.Refusal). session.ServesRead Call true read draws 0 g h x o call.0 (after_draws (draws r) g)) (sym is) (call.1, refl)),
+      record { stored = call.2; words = moved ∙ ap (λ (x : Lcg). after_draws (draws r) x) after.words },
+      call.2.own,
+      refl,
+    )
+
+-- what is replied to an outcome
+pub with_reply : (now : PlainHistory → Lcg → Type 0) (o : Outcome) (replied : Outcome → Type 0) (g : Lcg) (h : PlainHistory) (message : Message) → IsServed now (λ p. p ≡ o) g h message →
+    replied o → IsServed now replied g h message
+with_reply now o replied g h message (p, t, g', one, there, own, is) r = (p, t, g', one, there, own, subst replied (sym is) r)
