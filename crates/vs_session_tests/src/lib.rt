@@ -2,6 +2,8 @@
 #![tactic(auto)]
 
 #[cfg(test)]
+mod pipeline;
+#[cfg(test)]
 mod requests;
 #[cfg(test)]
 mod served;

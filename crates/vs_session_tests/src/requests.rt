@@ -1,30 +1,24 @@
 //! Requests in short: a line for each, its words parted by `|`.
-ghost use Rattle.std.specs.Prelude.{◌≡◌};
-
 use std::alloc::Global;
 use vs_outside::{NoMemory, Text};
 
-fn push_count(text: &mut Text, mark: u8, count: usize) -> Result<(), NoMemory> {
-    let mut digits = [0u8; 20];
-    let mut left = count;
-    let mut at = 20;
-    while at > 0 {
-        at -= 1;
-        digits[at] = 48 + (left % 10) as u8;
-        left /= 10;
-        if left == 0 {
-            break;
-        }
-    }
+/// Puts the decimal digits of a number behind a text.
+pub fn push_number(alloc: Global, text: &mut Text, number: usize) -> Result<(), NoMemory> {
+    let digits = format!(in alloc; "{number}")?;
+    text.extend_from_slice(digits.as_bytes())
+}
+
+fn push_count(alloc: Global, text: &mut Text, mark: u8, count: usize) -> Result<(), NoMemory> {
     text.push(mark)?;
-    text.extend_from_slice(&digits[at..])?;
+    push_number(alloc, text, count)?;
     text.extend_from_slice(b"\r\n")
 }
 
-fn push_request(text: &mut Text, line: &[u8]) -> Result<(), NoMemory> {
-    push_count(text, b'*', line.split(|byte| *byte == b'|').count())?;
+/// Puts a line behind a text, as an array of bulks.
+pub fn push_request(alloc: Global, text: &mut Text, line: &[u8]) -> Result<(), NoMemory> {
+    push_count(alloc, text, b'*', line.split(|byte| *byte == b'|').count())?;
     for word in line.split(|byte| *byte == b'|') {
-        push_count(text, b'$', word.len())?;
+        push_count(alloc, text, b'$', word.len())?;
         text.extend_from_slice(word)?;
         text.extend_from_slice(b"\r\n")?;
     }
@@ -35,7 +29,7 @@ fn push_request(text: &mut Text, line: &[u8]) -> Result<(), NoMemory> {
 pub fn requests(alloc: Global, lines: &[u8]) -> Result<Text, NoMemory> {
     let mut text = Text::new(alloc);
     for line in lines.split(|byte| *byte == b'\n') {
-        push_request(&mut text, line)?;
+        push_request(alloc, &mut text, line)?;
     }
     Ok(text)
 }

@@ -158,3 +158,13 @@ fn a_failed_read_or_write_ends_the_connection(rt: HostRuntime) -> Result<(), Fai
     }
     Ok(())
 }
+
+#[test]
+fn filters_choose_among_the_members(rt: HostRuntime) -> Result<(), Fail> {
+    let alloc = rt.alloc();
+    let lines = b"VADD|f|VALUES|1|1|a|SETATTR|{\"year\":1984,\"rating\":8.6}\nVADD|f|VALUES|1|1|b|SETATTR|{\"year\":1984}\nVADD|f|VALUES|1|1|c|SETATTR|x\nVADD|f|VALUES|1|1|d|SETATTR|{\"year\":1979,\"rating\":9.9}\nVADD|f|VALUES|1|1|e|SETATTR|{\"year\":1980,\"rating\":8.50}\nVSIM|f|VALUES|1|1|TRUTH|FILTER|.year >= 1980 and .rating > 8.5\nVSIM|f|VALUES|1|1|TRUTH|FILTER|.year >";
+    let output = b":1\r\n:1\r\n:1\r\n:1\r\n:1\r\n*1\r\n$1\r\na\r\n-ERR filter syntax at byte 7\r\n";
+    let input = requests(alloc, lines)?;
+    assert!(rt; gives(alloc, &input, SessionEnd::Ended, output)?);
+    Ok(())
+}
