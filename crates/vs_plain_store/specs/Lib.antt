@@ -1,2 +1,3 @@
 pub mod StoreKept
+pub mod StoreMemory
 pub mod StoreSeen

@@ -1,16 +1,18 @@
 //! Requests that may change the store.
-ghost use Rattle.std.specs.Prelude.{◌≡◌, ◌+◌, ◌<◌, ◌≤◌, ◌∷◌, [], true, false, None, Some, length, sum_by, filter, not, IfOk, IfErr, IfSome, IsSomeAnd, OnOk};
-ghost use Rattle.vs_defs.specs.Bytes.{same_name, listed};
+ghost use Rattle.std.specs.Prelude.{◌≡◌, ◌+◌, ◌<◌, ◌≤◌, ◌∷◌, [], true, false, None, Some, length, slice_get, sum_by, IfOk, IfErr, IfSome, IsSomeAnd, OnOk};
+ghost use Rattle.std.specs.List.{list_any};
+ghost use Rattle.vs_defs.specs.Bytes.{Bytes, same_name, listed};
 ghost use Rattle.vs_defs.specs.PlainMachine.{PlainDoes};
-ghost use Rattle.vs_defs.specs.Refuse.{has_member};
+ghost use Rattle.vs_defs.specs.PlainStep.{removed};
+ghost use Rattle.vs_defs.specs.Refuse.{has_key, has_member};
 ghost use Rattle.vs_defs.specs.Request as request;
-ghost use Rattle.vs_defs.specs.Store.{Contents, set_of, is_member};
+ghost use Rattle.vs_defs.specs.Store.{Contents, HasKeysOnce, without_keys, set_of, is_member};
 ghost use Rattle.vs_bits.specs.Requests.{add_of};
 ghost use Rattle.vs_command.specs.Outcomes.{outcome_of};
 ghost use Rattle.vs_command.specs.Refusals.{refusal_of};
 ghost use Rattle.vs_command.specs.Scores.{HasScores};
 ghost use Rattle.vs_plain_set.specs.Kept.{IsAt};
-ghost use Rattle.vs_plain_store.specs.StoreKept.{IsSetAt, Fits, misfit};
+ghost use Rattle.vs_plain_store.specs.StoreKept.{IsSetAt, IsRemoval, Fits, misfit};
 
 use vs_plain_set::Set;
 use crate::Store;
@@ -137,7 +139,7 @@ impl Store {
     }
 
     // The place of a key's set, and of a member in it.
-    fn places_of(&self, key: &[u8], name: &[u8]) -> Option<(usize, u32)>
+    pub(crate) fn places_of(&self, key: &[u8], name: &[u8]) -> Option<(usize, u32)>
         ensures absent { result ≡ None → has_member self.now key.now name.now ≡ false }
         ensures present { IfSome result (λ places. (x : Contents) × IsSetAt key.now places.0 self.now x × IsAt name.now places.1 x.members × (is_member name.now x.members ≡ true)) }
     {
@@ -155,9 +157,7 @@ impl Store {
             return Ok(Answer::Int(0));
         };
         let number = self.next_number()?;
-        if !self.sets[place].remove(at, number) {
-            self.sets.retain(|set| !set.is_of_key(key));
-        }
+        remove_member(&mut self.sets, place, key, at, number);
         self.members -= 1;
         self.changes = number;
         Ok(Answer::Int(1))
@@ -177,21 +177,50 @@ impl Store {
         Ok(Answer::Int(1))
     }
 
+    fn has_any(&self, keys: &[Text]) -> bool
+        ensures { result ≡ list_any (has_key self.now) keys.now }
+    {
+        keys.iter().any(|key| self.has(key.as_slice()))
+    }
+
     /// DEL. Each key counts once.
     pub(crate) fn delete(&mut self, keys: &[Text]) -> Result<Answer, Refusal>
         ensures does { PlainDoes self.old (request.Del keys.now) [] (outcome_of result) self.new }
         ensures scores { IfOk result HasScores }
     {
-        if !keys.iter().any(|key| self.place_of(key.as_slice()).is_some()) {
+        if !self.has_any(keys) {
             return Ok(Answer::Int(0));
         }
         let number = self.next_number()?;
         let before = self.sets.len();
-        self.sets.retain(|set| !is_listed(set, keys));
+        drop_keys(&mut self.sets, keys);
         self.members = member_count(self.sets.as_slice());
         self.changes = number;
         Ok(Answer::Int((before - self.sets.len()) as i64))
     }
+}
+
+// Removes the member at the second place from the set of the key, which stands at the first place. A set without members goes.
+fn remove_member(sets: &mut Vec<Set>, place: usize, key: &[u8], at: u32, number: u64)
+    requires once { HasKeysOnce sets.old.items }
+    requires at { IsSomeAnd (slice_get sets.old.items place) (λ e. (e.0 ≡ key.now) × (at < length e.1.members)) }
+    ensures { (name : Bytes) (x : Contents) → slice_get sets.old.items place ≡ Some (key.now, x) → IsAt name at x.members → IsRemoval key.now (removed name number x) sets.old.items sets.new.items }
+{
+    if !sets[place].remove(at, number) {
+        drop_key(sets, key);
+    }
+}
+
+fn drop_key(sets: &mut Vec<Set>, key: &[u8])
+    ensures { sets.new.items ≡ without_keys (same_name key.now) sets.old.items }
+{
+    sets.retain(|set| !set.is_of_key(key));
+}
+
+fn drop_keys(sets: &mut Vec<Set>, keys: &[Text])
+    ensures { sets.new.items ≡ without_keys (λ key. listed key keys.now) sets.old.items }
+{
+    sets.retain(|set| !is_listed(set, keys));
 }
 
 // Whether the key of the set is among these.

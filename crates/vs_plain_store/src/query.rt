@@ -1,5 +1,5 @@
 //! Requests that change nothing.
-ghost use Rattle.std.specs.Prelude.{◌≡◌, ◌∷◌, [], true, None, Some, length, IfOk};
+ghost use Rattle.std.specs.Prelude.{◌≡◌, ◌≢◌, [], true, Err, length, IfOk};
 ghost use Rattle.vs_defs.specs.PlainMachine.{PlainDoes, PlainAnswers};
 ghost use Rattle.vs_defs.specs.Read.{draws as draws_of};
 ghost use Rattle.vs_defs.specs.Request as request;
@@ -14,11 +14,17 @@ use vs_outside::{List, Text};
 use vs_truth::Members;
 
 impl Store {
-    pub(crate) fn exists(&self, keys: &[Text]) -> Answer
-        requires { length keys.now ≤ 65536 }
-        ensures { PlainAnswers self.now (request.Exists keys.now) [] (answer_of result) }
+    // A `Vec`, whose length fits the answer.
+    pub(crate) fn exists(&self, keys: &Vec<Text>) -> Answer
+        ensures answers { PlainAnswers self.now (request.Exists keys.now.items) [] (answer_of result) }
+        ensures scores { HasScores result }
     {
-        let count = keys.iter().filter(|key| self.place_of(key.as_slice()).is_some()).count();
+        let mut count: u64 = 0;
+        for key in keys {
+            if self.has(key.as_slice()) {
+                count += 1;
+            }
+        }
         Answer::Int(count as i64)
     }
 
@@ -39,25 +45,29 @@ impl Store {
     }
 
     pub(crate) fn cardinality(&self, key: &[u8]) -> Answer
-        ensures { PlainAnswers self.now (request.Vcard key.now) [] (answer_of result) }
+        ensures answers { PlainAnswers self.now (request.Vcard key.now) [] (answer_of result) }
+        ensures scores { HasScores result }
     {
         match self.place_of(key) {
-            Some(place) => Answer::Int(self.sets[place].count() as i64),
+            Some(place) => Answer::Int(i64::from(self.sets[place].count())),
             None => Answer::Int(0),
         }
     }
 
     pub(crate) fn dimension(&self, key: &[u8]) -> Result<Answer, Refusal>
-        ensures { PlainDoes self.now (request.Vdim key.now) [] (outcome_of result) self.now }
+        ensures does { PlainDoes self.now (request.Vdim key.now) [] (outcome_of result) self.now }
+        ensures scores { IfOk result HasScores }
+        ensures memory { result ≢ Err Refusal.NoMemory }
     {
         match self.place_of(key) {
-            Some(place) => Ok(Answer::Int(self.sets[place].dim() as i64)),
+            Some(place) => Ok(Answer::Int(i64::from(self.sets[place].dim()))),
             None => Err(Refusal::NoSuchKey),
         }
     }
 
     pub(crate) fn embedding(&self, key: &[u8], name: &[u8]) -> Result<Answer, Refusal>
-        ensures { PlainDoes self.now (request.Vemb key.now name.now) [] (outcome_of result) self.now }
+        ensures does { PlainDoes self.now (request.Vemb key.now name.now) [] (outcome_of result) self.now }
+        ensures scores { IfOk result HasScores }
     {
         match self.place_of(key) {
             Some(place) => Ok(self.sets[place].embedding(self.alloc, name)?),
@@ -66,7 +76,8 @@ impl Store {
     }
 
     pub(crate) fn attribute(&self, key: &[u8], name: &[u8]) -> Result<Answer, Refusal>
-        ensures { PlainDoes self.now (request.Vgetattr key.now name.now) [] (outcome_of result) self.now }
+        ensures does { PlainDoes self.now (request.Vgetattr key.now name.now) [] (outcome_of result) self.now }
+        ensures scores { IfOk result HasScores }
     {
         match self.place_of(key) {
             Some(place) => Ok(self.sets[place].attribute(name)?),
@@ -76,7 +87,8 @@ impl Store {
 
     pub(crate) fn random(&self, key: &[u8], count: Option<i32>, words: &[u32]) -> Result<Answer, Refusal>
         requires { length words.now ≡ draws_of (request.Vrandmember key.now count) }
-        ensures { PlainDoes self.now (request.Vrandmember key.now count) words.now (outcome_of result) self.now }
+        ensures does { PlainDoes self.now (request.Vrandmember key.now count) words.now (outcome_of result) self.now }
+        ensures scores { IfOk result HasScores }
     {
         match (self.place_of(key), count) {
             (Some(place), _) => Ok(self.sets[place].random(self.alloc, count, words)?),
@@ -86,11 +98,12 @@ impl Store {
     }
 
     pub(crate) fn is_member(&self, key: &[u8], name: &[u8]) -> Answer
-        ensures { PlainAnswers self.now (request.Vismember key.now name.now) [] (answer_of result) }
+        ensures answers { PlainAnswers self.now (request.Vismember key.now name.now) [] (answer_of result) }
+        ensures scores { HasScores result }
     {
-        match self.place_of(key) {
-            Some(place) if self.sets[place].place_of(name).is_some() => Answer::Int(1),
-            _ => Answer::Int(0),
+        match self.places_of(key, name) {
+            Some(_) => Answer::Int(1),
+            None => Answer::Int(0),
         }
     }
 }

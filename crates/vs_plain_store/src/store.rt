@@ -1,14 +1,18 @@
 //! The store: sets by their keys.
-ghost use Rattle.std.specs.Prelude.{◌≡◌, true, is_some, length, None, IfOk, IfSome};
+ghost use Rattle.std.specs.Prelude.{◌≡◌, ◌≢◌, Err, true, length, None, IfOk, IfSome};
+ghost use Rattle.std.specs.List.{position};
 ghost use Rattle.vs_defs.specs.Store.{Contents, empty_store, set_of};
 ghost use Rattle.vs_defs.specs.Read.{draws as draws_of};
 ghost use Rattle.vs_defs.specs.Bounds.{IsInBounds};
 ghost use Rattle.vs_defs.specs.PlainMachine.{PlainDoes};
+ghost use Rattle.vs_defs.specs.Refuse.{has_key};
 ghost use Rattle.vs_defs.specs.Stages.{is_plain};
+ghost use Rattle.vs_defs.specs.Bytes.{same_name};
 ghost use Rattle.vs_command.specs.Outcomes.{outcome_of};
 ghost use Rattle.vs_command.specs.Requests.{request_of};
 ghost use Rattle.vs_command.specs.Scores.{HasScores};
 ghost use Rattle.vs_plain_store.specs.StoreKept.{AreUsual, IsSetAt};
+ghost use Rattle.vs_plain_store.specs.StoreMemory.{takes_no_memory};
 ghost use Rattle.vs_plain_store.specs.StoreSeen.{limits_seen};
 
 use crate::Limits;
@@ -39,6 +43,12 @@ impl Model for Store {
     ghost invariant = { λ s. IsKept (limits_seen s.limits) s.members s.sets.items };
 }
 
+fn place_among(sets: &[Set], key: &[u8]) -> Option<usize>
+    ensures { result ≡ position (λ e. same_name key.now e.0) sets.now }
+{
+    sets.iter().position(|set| set.is_of_key(key))
+}
+
 impl Store {
     /// The empty store. It takes no memory.
     pub fn new(alloc: Global, limits: Limits) -> Store
@@ -62,13 +72,14 @@ impl Store {
         requires plain { is_plain (request_of request) ≡ true }
         ensures does { PlainDoes self.old (request_of request) words.now (outcome_of result) self.new }
         ensures scores { IfOk result HasScores }
+        ensures memory { takes_no_memory (request_of request) ≡ true → result ≢ Err Refusal.NoMemory }
     {
         match request {
             Request::Ping(None) => Ok(Answer::Pong),
             Request::Ping(Some(text)) => Ok(Answer::Bulk(text)),
             Request::Quit => Ok(Answer::Bye),
             Request::Del(keys) => self.delete(keys.as_slice()),
-            Request::Exists(keys) => Ok(self.exists(keys.as_slice())),
+            Request::Exists(keys) => Ok(self.exists(&keys.into_vec())),
             Request::Vadd(add) => self.add(add, words[0]),
             Request::Vrem { key, name } => self.remove(key.as_slice(), name.as_slice()),
             Request::Vsim(search) => self.search(&search),
@@ -83,11 +94,18 @@ impl Store {
         }
     }
 
+    // Whether the key has a set.
+    pub(crate) fn has(&self, key: &[u8]) -> bool
+        ensures { result ≡ has_key self.now key.now }
+    {
+        self.place_of(key).is_some()
+    }
+
     // The place of a key's set.
     pub(crate) fn place_of(&self, key: &[u8]) -> Option<usize>
         ensures absent { result ≡ None → set_of key.now self.now ≡ None }
         ensures present { IfSome result (λ place. (x : Contents) × IsSetAt key.now place self.now x) }
     {
-        self.sets.iter().position(|set| set.is_of_key(key))
+        place_among(self.sets.as_slice(), key)
     }
 }
