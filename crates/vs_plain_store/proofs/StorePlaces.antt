@@ -35,11 +35,13 @@ a_set s key place is =
     let h = position-Some (is_key key) s.sets place d is in
     let e : Bytes × Contents = get_or s.sets place d in
     let same : key ≡ e.0 = same-is key e.0 h.1 in
-    let here : e ≡ (key, e.1) = λ t. (sym same t, e.1) in
-    (e.1, record {
-      at = slice_get-get_or s.sets place d h.0 ∙ ap Some here;
-      of_key = lookup-first s.sets key place d h.0 h.2 h.1;
-    })
+    let here : e ≡ (key, e.1) = λ t. (sym same t, e.1) in (
+      e.1,
+      record {
+        at = slice_get-get_or s.sets place d h.0 ∙ ap Some here;
+        of_key = lookup-first s.sets key place d h.0 h.2 h.1;
+      },
+    )
 
 pub a_set_or_none : (s : PlainStore) (key : Bytes) (o : Option ℕ) → o ≡ position (is_key key) s.sets → IfSome o (λ place. (x : Contents) × IsSetAt key place s x)
 a_set_or_none s key None is = tt

@@ -14,11 +14,11 @@ ghost use Rattle.vs_command.specs.Scores.{HasScores};
 ghost use Rattle.vs_plain_set.specs.Kept.{IsAt};
 ghost use Rattle.vs_plain_store.specs.StoreKept.{IsSetAt, IsRemoval, Fits, misfit};
 
-use vs_plain_set::Set;
 use crate::Store;
 use vs_bits::Add;
 use vs_command::{Answer, Refusal};
 use vs_outside::Text;
+use vs_plain_set::Set;
 use vs_truth::Members;
 
 // Whether a VADD has the dimension of the set, and its M where it names one.
@@ -164,7 +164,12 @@ impl Store {
     }
 
     /// VSETATTR.
-    pub(crate) fn set_attribute(&mut self, key: &[u8], name: &[u8], text: Text) -> Result<Answer, Refusal>
+    pub(crate) fn set_attribute(
+        &mut self,
+        key: &[u8],
+        name: &[u8],
+        text: Text,
+    ) -> Result<Answer, Refusal>
         ensures does { PlainDoes self.old (request.Vsetattr key.now name.now text) [] (outcome_of result) self.new }
         ensures scores { IfOk result HasScores }
     {

@@ -22,7 +22,12 @@ impl Machine for Store {
 
 /// Serves one connection by a fresh store of the usual limits. The drawn words are those of the stream 0 of the seed.
 /// Each message is answered, and its reply written whole, before the next one is looked at.
-pub fn serve_alone<S: Source, K: Sink>(alloc: Global, seed: u64, source: &mut S, sink: &mut K) -> SessionEnd
+pub fn serve_alone<S: Source, K: Sink>(
+    alloc: Global,
+    seed: u64,
+    source: &mut S,
+    sink: &mut K,
+) -> SessionEnd
     ensures session { (input : Bytes) × (output : Bytes) × (S.left source.old ≡ in_front input (S.left source.new))
         × Adds (K.written sink.old) output (K.written sink.new) × EndsWith result (generator_of seed 0) input output }
     ensures end { (result ≡ SessionEnd.Ended) ⊎ (result ≡ SessionEnd.CutShort) → NothingLeft (S.left source.new) }

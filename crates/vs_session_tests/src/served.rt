@@ -7,7 +7,13 @@ use vs_server::serve_alone;
 use vs_session::SessionEnd;
 
 /// The end, and what was written, where the source gives pieces of this size. The calls of these numbers fail; 0 is none.
-pub fn served(alloc: Global, input: Text, piece: usize, read_fault: u64, write_fault: u64) -> Result<(SessionEnd, MemSink), NoMemory>
+pub fn served(
+    alloc: Global,
+    input: Text,
+    piece: usize,
+    read_fault: u64,
+    write_fault: u64,
+) -> Result<(SessionEnd, MemSink), NoMemory>
     requires { 1 ≤ piece }
 {
     let mut source = MemSource::new(input, piece, List::from_slice(alloc, &[read_fault])?);
@@ -17,7 +23,12 @@ pub fn served(alloc: Global, input: Text, piece: usize, read_fault: u64, write_f
 }
 
 /// Whether the input ends so, and these bytes are written, however it is cut.
-pub fn gives(alloc: Global, input: &Text, end: SessionEnd, output: &[u8]) -> Result<bool, NoMemory> {
+pub fn gives(
+    alloc: Global,
+    input: &Text,
+    end: SessionEnd,
+    output: &[u8],
+) -> Result<bool, NoMemory> {
     for piece in [1, 7, 16_384] {
         let (ended, sink) = served(alloc, input.try_clone()?, piece, 0, 0)?;
         if ended != end || sink.written() != output {

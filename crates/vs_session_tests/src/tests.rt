@@ -11,7 +11,10 @@ fn members_are_added_replaced_and_shown(rt: HostRuntime) -> Result<(), Fail> {
     let alloc = rt.alloc();
     let cases: [(&[u8], &[u8]); 3] = [
         (b"VADD|s|VALUES|3|1|-2|0|a|BIN", b":1\r\n"),
-        (b"VADD|s|VALUES|3|1|-2|0|a|BIN\nVADD|s|VALUES|3|1|-2|0|a|BIN", b":1\r\n:0\r\n"),
+        (
+            b"VADD|s|VALUES|3|1|-2|0|a|BIN\nVADD|s|VALUES|3|1|-2|0|a|BIN",
+            b":1\r\n:0\r\n",
+        ),
         (
             b"VADD|u|VALUES|4|0.25|-1e-9|-0.0|+7|x\nVEMB|u|x",
             b":1\r\n*4\r\n$1\r\n1\r\n$2\r\n-1\r\n$2\r\n-1\r\n$1\r\n1\r\n",
@@ -125,15 +128,39 @@ fn connections_end_by_their_causes(rt: HostRuntime) -> Result<(), Fail> {
     let alloc = rt.alloc();
     let cases: [(&[u8], SessionEnd, &[u8]); 10] = [
         (b"", SessionEnd::Ended, b""),
-        (b"PING\r\n\r\nVCARD  s\n", SessionEnd::Ended, b"+PONG\r\n:0\r\n"),
+        (
+            b"PING\r\n\r\nVCARD  s\n",
+            SessionEnd::Ended,
+            b"+PONG\r\n:0\r\n",
+        ),
         (b"ping a-b\r\n", SessionEnd::Ended, b"$3\r\na-b\r\n"),
-        (b"*0\r\n*-1\r\n*1\r\n$4\r\nPING\r\n", SessionEnd::Ended, b"+PONG\r\n"),
+        (
+            b"*0\r\n*-1\r\n*1\r\n$4\r\nPING\r\n",
+            SessionEnd::Ended,
+            b"+PONG\r\n",
+        ),
         (b"QUIT\r\nPING\r\n", SessionEnd::Quit, b"+OK\r\n"),
         (b"QUIT\r\n*x", SessionEnd::Quit, b"+OK\r\n"),
-        (b"*1\r\n$4\r\nPING\r\n*2\r\n$5\r\nab", SessionEnd::CutShort, b"+PONG\r\n"),
-        (b"*1x", protocol(Fault::BadCount, 2), b"-ERR Protocol error: bad array count at byte 2\r\n"),
-        (b"PING\n*65537", protocol(Fault::CountTooLarge, 10), b"+PONG\r\n-ERR Protocol error: array count too large at byte 10\r\n"),
-        (b"*1\r\n$3\r\nabcX", protocol(Fault::BadEnd, 11), b"-ERR Protocol error: bad bulk end at byte 11\r\n"),
+        (
+            b"*1\r\n$4\r\nPING\r\n*2\r\n$5\r\nab",
+            SessionEnd::CutShort,
+            b"+PONG\r\n",
+        ),
+        (
+            b"*1x",
+            protocol(Fault::BadCount, 2),
+            b"-ERR Protocol error: bad array count at byte 2\r\n",
+        ),
+        (
+            b"PING\n*65537",
+            protocol(Fault::CountTooLarge, 10),
+            b"+PONG\r\n-ERR Protocol error: array count too large at byte 10\r\n",
+        ),
+        (
+            b"*1\r\n$3\r\nabcX",
+            protocol(Fault::BadEnd, 11),
+            b"-ERR Protocol error: bad bulk end at byte 11\r\n",
+        ),
     ];
     for (input, end, output) in cases {
         let input = Text::from_slice(alloc, input)?;
@@ -162,7 +189,8 @@ fn a_failed_read_or_write_ends_the_connection(rt: HostRuntime) -> Result<(), Fai
 #[test]
 fn filters_choose_among_the_members(rt: HostRuntime) -> Result<(), Fail> {
     let alloc = rt.alloc();
-    let lines = b"VADD|f|VALUES|1|1|a|SETATTR|{\"year\":1984,\"rating\":8.6}\nVADD|f|VALUES|1|1|b|SETATTR|{\"year\":1984}\nVADD|f|VALUES|1|1|c|SETATTR|x\nVADD|f|VALUES|1|1|d|SETATTR|{\"year\":1979,\"rating\":9.9}\nVADD|f|VALUES|1|1|e|SETATTR|{\"year\":1980,\"rating\":8.50}\nVSIM|f|VALUES|1|1|TRUTH|FILTER|.year >= 1980 and .rating > 8.5\nVSIM|f|VALUES|1|1|TRUTH|FILTER|.year >";
+    let lines =
+        b"VADD|f|VALUES|1|1|a|SETATTR|{\"year\":1984,\"rating\":8.6}\nVADD|f|VALUES|1|1|b|SETATTR|{\"year\":1984}\nVADD|f|VALUES|1|1|c|SETATTR|x\nVADD|f|VALUES|1|1|d|SETATTR|{\"year\":1979,\"rating\":9.9}\nVADD|f|VALUES|1|1|e|SETATTR|{\"year\":1980,\"rating\":8.50}\nVSIM|f|VALUES|1|1|TRUTH|FILTER|.year >= 1980 and .rating > 8.5\nVSIM|f|VALUES|1|1|TRUTH|FILTER|.year >";
     let output = b":1\r\n:1\r\n:1\r\n:1\r\n:1\r\n*1\r\n$1\r\na\r\n-ERR filter syntax at byte 7\r\n";
     let input = requests(alloc, lines)?;
     assert!(rt; gives(alloc, &input, SessionEnd::Ended, output)?);

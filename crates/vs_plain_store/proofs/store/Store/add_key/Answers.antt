@@ -33,7 +33,7 @@ invariant_of-self-2 c =
       all_within = omega (arith, c.if-self.false);
       keys_within = omega (arith, long, c.if-len-self.false, c.len.ensures, c.self.inside.sets.ok.0);
       set_within = subst (All (λ (e : Bytes × Contents). length e.1.members ≤ c.self.inside.limits.set)) (sym pushed)
-      (All-push (λ (e : Bytes × Contents). length e.1.members ≤ c.self.inside.limits.set) s.sets (add.key, y) c.self.invariant.set_within (omega (arith, c.self.invariant.limits.set.0)));
+          (All-push (λ (e : Bytes × Contents). length e.1.members ≤ c.self.inside.limits.set) s.sets (add.key, y) c.self.invariant.set_within (omega (arith, c.self.invariant.limits.set.0)));
     }
 
 pub returns-clause-does : goal.returns-clause-does
@@ -50,12 +50,12 @@ returns-clause-does c =
     let made : (y, one) ≡ added add words (s.changes + 1) (set_of add.key s) = ap (λ n. (new_set add words n, one)) number ∙ sym (ap (added add words (s.changes + 1)) absent) in
     let done : PlainChanges s (request.Vadd add) words one after = record {
       unrefused = absent-refusal s add absent ∙ room-for-key s (omega (arith, c.if-len-self.false, c.len.ensures, c.self.inside.sets.ok.0))
-      ∙ room-for-all s (omega (arith, c.self.invariant.counted, c.if-self.false))
-      ∙ limit-free s (omega (arith, c.in_ok-number.ensures.ok.1, ap (λ (t : PlainStore). t.changes) c.self.view_is, ap (λ (t : PlainStore). t.limits.changes) c.self.view_is));
+          ∙ room-for-all s (omega (arith, c.self.invariant.counted, c.if-self.false))
+          ∙ limit-free s (omega (arith, c.in_ok-number.ensures.ok.1, ap (λ (t : PlainStore). t.changes) c.self.view_is, ap (λ (t : PlainStore). t.limits.changes) c.self.view_is));
       step = record {
         changes_something = refl;
         sets = subst (λ l. AnswerAlike l (with_set add.key (added add words (s.changes + 1) (set_of add.key s)).0 s.sets)) (sym pushed)
-        (subst (λ (p : Contents × request.Answer). AnswerAlike (s.sets ++ (add.key, y) ∷ []) (with_set add.key p.0 s.sets)) made (alike-push s.sets add.key y absent));
+            (subst (λ (p : Contents × request.Answer). AnswerAlike (s.sets ++ (add.key, y) ∷ []) (with_set add.key p.0 s.sets)) made (alike-push s.sets add.key y absent));
         keys = subst HasKeysOnce (sym pushed) (keys-push s.sets add.key y absent c.self.invariant.once);
         answers = ap (λ (p : Contents × request.Answer). p.1) made;
         number = number;

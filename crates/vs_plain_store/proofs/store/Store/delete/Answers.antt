@@ -44,7 +44,7 @@ invariant_of-self c =
       all_within = omega (arith, counted, all, sum-least gone s.sets, c.self.invariant.counted, c.self.invariant.all_within);
       keys_within = omega (arith, ap (λ (l : List (Bytes × Contents)). length l) c.drop_keys.ensures, few-without gone s.sets, c.self.invariant.keys_within);
       set_within = subst (All (λ (e : Bytes × Contents). length e.1.members ≤ c.self.inside.limits.set)) (sym c.drop_keys.ensures)
-      (All-filter (λ e. not (gone e.0)) (λ (e : Bytes × Contents). length e.1.members ≤ c.self.inside.limits.set) s.sets c.self.invariant.set_within);
+          (All-filter (λ e. not (gone e.0)) (λ (e : Bytes × Contents). length e.1.members ≤ c.self.inside.limits.set) s.sets c.self.invariant.set_within);
     }
 
 pub returns-clause-does : goal.returns-clause-does
@@ -62,7 +62,7 @@ returns-clause-does c =
     let answer : request.Answer = request.Int (to_z w64 (c.len-before.result - c.len.result)) in
     let done : PlainChanges s r [] answer after = record {
       unrefused = change-limited s r changes
-      ∙ limit-free s (omega (arith, c.in_ok-number.ensures.ok.1, ap (λ (t : PlainStore). t.changes) c.self.view_is, ap (λ (t : PlainStore). t.limits.changes) c.self.view_is));
+          ∙ limit-free s (omega (arith, c.in_ok-number.ensures.ok.1, ap (λ (t : PlainStore). t.changes) c.self.view_is, ap (λ (t : PlainStore). t.limits.changes) c.self.view_is));
       step = record {
         changes_something = changes;
         sets = λ k. ap (lookup_set k) c.drop_keys.ensures;

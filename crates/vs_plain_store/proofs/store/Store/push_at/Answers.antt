@@ -26,9 +26,11 @@ returns-then-count-self-clause-does c =
     let x = c.requires.at.0 in
     let at = at-seen s c.args.self.now add.key c.args.place x c.self.view_is c.requires.at.1 in
     let read = read-at s.sets c.args.place add.key x c.index.result.now at.at c.index.ensures in
-    let count : c.count-count.result ≡ length x.members = c.count-count.ensures ∙ ap (λ (e : Bytes × Contents). length e.1.members) read in
-    (refl, ap (λ t. store_refusal t (request.Vadd add)) (sym c.self.view_is) ∙ present-refusal s add x at.of_key
-    ∙ full-set s add x c.requires.at.2.unrefused c.requires.at.3 (omega (arith, count, c.if-count-self.true)) ∙ ap (λ n. Some (request.FullSet n)) (sym count))
+    let count : c.count-count.result ≡ length x.members = c.count-count.ensures ∙ ap (λ (e : Bytes × Contents). length e.1.members) read in (
+      refl,
+      ap (λ t. store_refusal t (request.Vadd add)) (sym c.self.view_is) ∙ present-refusal s add x at.of_key
+          ∙ full-set s add x c.requires.at.2.unrefused c.requires.at.3 (omega (arith, count, c.if-count-self.true)) ∙ ap (λ n. Some (request.FullSet n)) (sym count),
+    )
 
 pub returns-then-self-clause-does : goal.returns-then-self-clause-does
 returns-then-self-clause-does c =
@@ -38,10 +40,12 @@ returns-then-self-clause-does c =
     let at = at-seen s c.args.self.now add.key c.args.place x c.self.view_is c.requires.at.1 in
     let read = read-at s.sets c.args.place add.key x c.index.result.now at.at c.index.ensures in
     let count : c.count-count.result ≡ length x.members = c.count-count.ensures ∙ ap (λ (e : Bytes × Contents). length e.1.members) read in
-    let all : member_count s ≡ c.self.inside.members = sym c.self.invariant.counted in
-    (refl, ap (λ t. store_refusal t (request.Vadd add)) (sym c.self.view_is) ∙ present-refusal s add x at.of_key
-    ∙ room-for-member s add x c.requires.at.2.unrefused c.requires.at.3 (omega (arith, count, c.if-count-self.false))
-    ∙ full-all s (omega (arith, all, c.if-self.true)) ∙ ap (λ n. Some (request.FullAll n)) all)
+    let all : member_count s ≡ c.self.inside.members = sym c.self.invariant.counted in (
+      refl,
+      ap (λ t. store_refusal t (request.Vadd add)) (sym c.self.view_is) ∙ present-refusal s add x at.of_key
+          ∙ room-for-member s add x c.requires.at.2.unrefused c.requires.at.3 (omega (arith, count, c.if-count-self.false))
+          ∙ full-all s (omega (arith, all, c.if-self.true)) ∙ ap (λ n. Some (request.FullAll n)) all,
+    )
 
 pub returns-in_err-number-clause-does : goal.returns-in_err-number-clause-does
 returns-in_err-number-clause-does c =
@@ -128,9 +132,9 @@ returns-clause-does c =
     let number : c.in_ok-number.number ≡ s.changes + 1 = c.in_ok-number.ensures.ok.0 ∙ ap (λ (t : PlainStore). t.changes + 1) (sym c.self.view_is) in
     let done : PlainChanges s (request.Vadd add) words one after = record {
       unrefused = present-refusal s add x at.of_key
-      ∙ room-for-member s add x c.requires.at.2.unrefused c.requires.at.3 (omega (arith, count, c.if-count-self.false))
-      ∙ room-for-all s (omega (arith, all, c.if-self.false))
-      ∙ limit-free s (omega (arith, c.in_ok-number.ensures.ok.1, ap (λ (t : PlainStore). t.changes) c.self.view_is, ap (λ (t : PlainStore). t.limits.changes) c.self.view_is));
+          ∙ room-for-member s add x c.requires.at.2.unrefused c.requires.at.3 (omega (arith, count, c.if-count-self.false))
+          ∙ room-for-all s (omega (arith, all, c.if-self.false))
+          ∙ limit-free s (omega (arith, c.in_ok-number.ensures.ok.1, ap (λ (t : PlainStore). t.changes) c.self.view_is, ap (λ (t : PlainStore). t.limits.changes) c.self.view_is));
       step = record {
         changes_something = refl;
         sets = alike-written s.sets c.args.place add.key x (added add words (s.changes + 1) (set_of add.key s)).0 c.push.new.self at.at c.self.invariant.once key value;

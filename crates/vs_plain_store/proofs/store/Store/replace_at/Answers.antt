@@ -60,7 +60,7 @@ returns-clause-does c =
     ∙ ap (λ n. (added_to add words n x (member_of add.name x.members)).1) number ∙ sym (ap (λ (p : Contents × request.Answer). p.1) made) in
     let done : PlainChanges s (request.Vadd add) words (request.Int (pos 0)) after = record {
       unrefused = present-refusal s add x at.of_key ∙ of-member s add x c.requires.at.2.unrefused c.requires.at.4
-      ∙ limit-free s (omega (arith, c.in_ok-number.ensures.ok.1, ap (λ (t : PlainStore). t.changes) c.self.view_is, ap (λ (t : PlainStore). t.limits.changes) c.self.view_is));
+          ∙ limit-free s (omega (arith, c.in_ok-number.ensures.ok.1, ap (λ (t : PlainStore). t.changes) c.self.view_is, ap (λ (t : PlainStore). t.limits.changes) c.self.view_is));
       step = record {
         changes_something = refl;
         sets = alike-written s.sets c.args.place add.key x (added add words (s.changes + 1) (set_of add.key s)).0 c.replace.new.self at.at c.self.invariant.once key value;

@@ -61,7 +61,7 @@ returns-clause-does c =
     let after : PlainStore = record { sets = slice_set s.sets place e; changes = c.in_ok-number.number; limits = s.limits } in
     let done : PlainChanges s r [] one after = record {
       unrefused = change-limited s r changes
-      ∙ limit-free s (omega (arith, c.in_ok-number.ensures.ok.1, ap (λ (t : PlainStore). t.changes) c.self.view_is, ap (λ (t : PlainStore). t.limits.changes) c.self.view_is));
+          ∙ limit-free s (omega (arith, c.in_ok-number.ensures.ok.1, ap (λ (t : PlainStore). t.changes) c.self.view_is, ap (λ (t : PlainStore). t.limits.changes) c.self.view_is));
       step = record {
         changes_something = changes;
         sets = subst (λ o. AnswerAlike after.sets (with_option key o s.sets)) (sym made) (alike-written s.sets place key x (attributed name c.args.text x) e at.at c.self.invariant.once same value);
