@@ -101,7 +101,7 @@ pub fn link_layer<N: Nodes, L: Ledger>(
     ensures good { OnOk result ((dim : ℕ) → AreLinksGood (overwritten edit.old (N.at base.now)) m dim → AreLinksGood (overwritten edit.new (N.at base.now)) m dim) }
     ensures kept { OnOk result (KeepsLinked (links_at (overwritten edit.old (N.at base.now)) layer) (links_at (overwritten edit.new (N.at base.now)) layer)) }
     ensures own { OnOk result ((y : ℕ) → y ≢ x → StandsAt (overwritten edit.old (N.at base.now)) layer y → 0 < length (links_at (overwritten edit.new (N.at base.now)) layer x)) }
-    ensures told { reads.new ≤ reads.old + (m * (2 * m + 4) + (2 * m + 4)) }
+    ensures told { reads.new ≤ reads.old + (m * (most_links m layer + 4) + (most_links m layer + 4)) }
 {
     let most = most_of(m, layer);
     link_at(alloc, edit, base, x, layer, chosen, fallback, most, reads)

@@ -1,0 +1,90 @@
+-- What is the same of two maps of nodes that differ in links alone.
+use Rattle.std.proofs.Common.{◌≡◌, ℕ, zero, suc, ◌≤◌, List, [], ◌∷◌, length, map, refl, sym, ap, ◌∙◌, subst}
+use Rattle.std.specs.Prelude.{Some, None, is_some, IsSomeAnd, option_map, slice_set}
+use Rattle.std.specs.Option.{option_map_or}
+use Rattle.std.specs.declared.option.Option.{Option}
+use Rattle.std.proofs.Math.Path.{fun_ext}
+use Rattle.std.proofs.lemmas.List.{length-map}
+use Rattle.vs_defs.specs.Store.{Member}
+use Rattle.vs_graph.specs.declared.node.Node.{Node}
+use Rattle.vs_graph.specs.Good.{body_at, layers_at, StandsAt}
+use Rattle.vs_graph.specs.Relinks.{cleared, Relinks}
+use Rattle.vs_graph.specs.Standing.{AreIds, member_of_node, member_at, members_of, name_of}
+use Rattle.vs_graph.specs.Table.{Table}
+use Rattle.vs_unlink.specs.Unlinked.{bare}
+
+emptied : (xs : List (List ℕ)) (i : ℕ) → map {A = List ℕ} {B = List ℕ} (λ list. []) (slice_set xs i []) ≡ map (λ list. []) xs
+emptied [] i = refl
+emptied (x ∷ xs) zero = refl
+emptied (x ∷ xs) (suc i) = ap (λ l. [] ∷ l) (emptied xs i)
+
+bare_cleared : (layer : ℕ) (o : Option Node) → bare (cleared layer o) ≡ bare o
+bare_cleared layer None = refl
+bare_cleared layer (Some node) = ap (λ links. Some (record node { links = links })) (emptied node.links layer)
+
+-- after a change of the links at one layer
+pub bare_kept : (at new : ℕ → Option Node) (layer : ℕ) (t : Table) → Relinks at new layer t → (id : ℕ) → bare (new id) ≡ bare (at id)
+bare_kept at new layer t r id = sym (bare_cleared layer (new id)) ∙ ap bare (r.rest id) ∙ bare_cleared layer (at id)
+
+body_bare : (o : Option Node) → option_map (λ node. node.body) (bare o) ≡ option_map (λ node. node.body) o
+body_bare None = refl
+body_bare (Some node) = refl
+
+layers_bare : (o : Option Node) → option_map_or (λ node. length node.links) (bare o) 0 ≡ option_map_or (λ node. length node.links) o 0
+layers_bare None = refl
+layers_bare (Some node) = length-map node.links (λ list. [])
+
+live_bare : (o : Option Node) → is_some (bare o) ≡ is_some o
+live_bare None = refl
+live_bare (Some node) = refl
+
+abbrev pub no_member : Member
+no_member = record { name = []; bits = []; attr = None; level = 0 }
+
+member_bare : (dim : ℕ) (o : Option Node) → option_map_or (member_of_node dim) (bare o) no_member ≡ option_map_or (member_of_node dim) o no_member
+member_bare dim None = refl
+member_bare dim (Some node) = refl
+
+bare_stands : (layer : ℕ) (o : Option Node) → IsSomeAnd o (λ node. layer ≤ node.level) → IsSomeAnd (bare o) (λ node. layer ≤ node.level)
+bare_stands layer None h = h
+bare_stands layer (Some node) h = h
+
+stands_bare : (layer : ℕ) (o : Option Node) → IsSomeAnd (bare o) (λ node. layer ≤ node.level) → IsSomeAnd o (λ node. layer ≤ node.level)
+stands_bare layer None h = h
+stands_bare layer (Some node) h = h
+
+map_same : {X Y : Type 0} (f g : X → Y) (xs : List X) → ((x : X) → f x ≡ g x) → map f xs ≡ map g xs
+map_same f g [] h = refl
+map_same f g (x ∷ xs) h = ap (λ y. y ∷ map f xs) (h x) ∙ ap (λ l. g x ∷ l) (map_same f g xs h)
+
+-- a member is the same where the nodes are but for links
+pub same_member_by : (one other : Option Node) (dim : ℕ) → bare one ≡ bare other → option_map_or (member_of_node dim) one no_member ≡ option_map_or (member_of_node dim) other no_member
+same_member_by one other dim e = sym (member_bare dim one) ∙ ap (λ o. option_map_or (member_of_node dim) o no_member) e ∙ member_bare dim other
+
+module _ (at new : ℕ → Option Node) (rest : (id : ℕ) → bare (new id) ≡ bare (at id)) where
+  pub bodies_same : body_at new ≡ body_at at
+  bodies_same = fun_ext (λ id. sym (body_bare (new id)) ∙ ap (option_map (λ node. node.body)) (rest id) ∙ body_bare (at id))
+
+  pub names_same : name_of new ≡ name_of at
+  names_same = ap (λ bodies. (λ (id : ℕ). option_map_or (λ body. body.name) (bodies id) [])) bodies_same
+
+  pub layers_same : layers_at new ≡ layers_at at
+  layers_same = fun_ext (λ id. sym (layers_bare (new id)) ∙ ap (λ o. option_map_or (λ node. length node.links) o 0) (rest id) ∙ layers_bare (at id))
+
+  pub members_same : (dim : ℕ) (ids : List ℕ) → members_of new dim ids ≡ members_of at dim ids
+  members_same dim ids = map_same (member_at new dim) (member_at at dim) ids (λ id. same_member_by (new id) (at id) dim (rest id))
+
+  live_same : (id : ℕ) → is_some (new id) ≡ is_some (at id)
+  live_same id = sym (live_bare (new id)) ∙ ap is_some (rest id) ∙ live_bare (at id)
+
+  pub ids_on : (ids : List ℕ) → AreIds at ids → AreIds new ids
+  ids_on ids are = record { once = are.once; live = λ id. are.live id ∙ sym (live_same id) }
+
+  pub ids_back : (ids : List ℕ) → AreIds new ids → AreIds at ids
+  ids_back ids are = record { once = are.once; live = λ id. are.live id ∙ live_same id }
+
+  pub stands_on : (layer id : ℕ) → StandsAt at layer id → StandsAt new layer id
+  stands_on layer id h = stands_bare layer (new id) (subst (λ o. IsSomeAnd o (λ node. layer ≤ node.level)) (sym (rest id)) (bare_stands layer (at id) h))
+
+  pub stood : (layer id : ℕ) → StandsAt new layer id → StandsAt at layer id
+  stood layer id h = stands_bare layer (at id) (subst (λ o. IsSomeAnd o (λ node. layer ≤ node.level)) (rest id) (bare_stands layer (new id) h))

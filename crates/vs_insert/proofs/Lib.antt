@@ -1,0 +1,9 @@
+pub mod Bare
+pub mod Stepping
+pub mod Costs
+pub mod Turning
+pub mod Committed
+pub mod Adding
+pub mod Named
+pub mod Found
+pub mod Choices

@@ -1,0 +1,4 @@
+pub mod Drafts
+pub mod Joined
+pub mod Added
+pub mod Choosing

@@ -1,0 +1,12 @@
+//! How a member is added: drafts, which choose whom it is linked to in a graph as it was, and commits, which link it without a search.
+#![tactic(auto)]
+
+mod choosing;
+mod committing;
+mod draft;
+mod joining;
+mod preparing;
+
+pub use committing::commit;
+pub use draft::{Chosen, Draft};
+pub use preparing::prepare;
