@@ -12,13 +12,12 @@ ghost use Rattle.vs_command.specs.Outcomes.{outcome_of};
 ghost use Rattle.vs_command.specs.Refusals.{refusal_of};
 ghost use Rattle.vs_command.specs.Scores.{HasScores};
 ghost use Rattle.vs_plain_set.specs.Kept.{IsAt};
-ghost use Rattle.vs_plain_store.specs.StoreKept.{IsSetAt, IsRemoval, Fits, misfit};
+ghost use Rattle.vs_plain_store.specs.Kept.{IsSetAt, IsRemoval, Fits, misfit};
 
-use crate::Store;
+use crate::{Set, Store};
 use vs_bits::Add;
 use vs_command::{Answer, Refusal};
 use vs_outside::Text;
-use vs_plain_set::Set;
 use vs_truth::Members;
 
 // Whether a VADD has the dimension of the set, and its M where it names one.
