@@ -14,10 +14,11 @@ ghost use Rattle.vs_command.specs.Scores.{HasScores};
 ghost use Rattle.vs_plain_set.specs.Kept.{IsAt};
 ghost use Rattle.vs_plain_store.specs.Kept.{IsSetAt, IsRemoval, Fits, misfit};
 
-use crate::{Set, Store};
+use crate::Store;
 use vs_bits::Add;
 use vs_command::{Answer, Refusal};
 use vs_outside::Text;
+use vs_plain_set::Set;
 use vs_truth::Members;
 
 // Whether a VADD has the dimension of the set, and its M where it names one.

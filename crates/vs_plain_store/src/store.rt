@@ -15,10 +15,11 @@ ghost use Rattle.vs_plain_store.specs.Kept.{AreUsual, IsSetAt};
 ghost use Rattle.vs_plain_store.specs.Memory.{takes_no_memory};
 ghost use Rattle.vs_plain_store.specs.Seen.{limits_seen};
 
-use vs_plain_set::Set; use crate::Limits;
+use crate::Limits;
 use std::alloc::Global;
 use std::marker::Model;
 use vs_command::{Answer, Refusal, Request};
+use vs_plain_set::Set;
 
 /// Sets by their keys, the number of accepted changes, and the limits. It takes no lock, and its sets have no links.
 #[derive(Drop)]
