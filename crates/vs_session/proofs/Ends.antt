@@ -1,21 +1,19 @@
 -- How a connection ends, from what was answered.
-use Rattle.std.proofs.Common.{◌≡◌, ◌⊎◌, inl, inr, ℕ, Bool, true, false, List, [], ◌∷◌, ◌++◌, Option, Some, None, Result, Ok, Err, refl, sym, ap, subst, ◌∙◌, append_assoc, append-nil, ◌≤◌, ◌<◌, ◌+◌, ◌^◌, length, length-append, take, arith}
+use Rattle.std.proofs.Common.{◌≡◌, inr, ℕ, Bool, true, false, List, [], ◌++◌, Option, Some, None, Ok, Err, refl, sym, ap, subst, ◌∙◌, append_assoc, append-nil, ◌≤◌, ◌+◌, ◌^◌, length, length-append, take, arith}
 use Rattle.std.specs.Prelude.{MatchBool}
 use Rattle.std.proofs.lemmas.Grind.{common_steps}
 use Rattle.rand_pcg.specs.Lcg.{Lcg}
 use Rattle.vs_defs.specs.Bytes.{Bytes}
 use Rattle.vs_defs.specs.Stream.{Message, End, with_words, place_in, Border, Within, Broken}
-use Rattle.vs_defs.specs.Stream as stream
 use Rattle.vs_defs.specs.Reply.{Outcome, fault_line}
 use Rattle.vs_defs.specs.History.{IsPrefix}
-use Rattle.vs_defs.specs.Store.{empty_store, usual_limits}
 use Rattle.vs_defs.specs.PlainMachine.{PlainHistory}
 use Rattle.vs_session_defs.specs.Session.{quits, replies, ending_by, closing_line}
 use Rattle.vs_session_defs.specs.Session as session
 use Rattle.vs_outside.specs.Known.{Adds, in_front}
 use Rattle.vs_outside.proofs.KnownBytes.{Adds-trans, in_front-trans}
-use Rattle.vs_stream.specs.Given.{GivenAll, GivenFirst}
-use Rattle.vs_stream.specs.Place.{BeginsStream, IsStream, HasFault}
+use Rattle.vs_stream.specs.Given.{GivenAll}
+use Rattle.vs_stream.specs.Place.{IsStream, HasFault}
 use Rattle.vs_stream.proofs.Callers.{EndsSo, ends_border, ends_within, ends_broken_at}
 use Rattle.vs_resp.specs.declared.Decoder.{Decoder}
 use Rattle.vs_resp.specs.declared.FeedError.{FeedError}

@@ -1,30 +1,24 @@
 -- A connection goes on by one message, or ends.
-use Rattle.std.proofs.Common.{◌≡◌, ◌⊎◌, inl, inr, ℕ, Bool, true, false, List, [], ◌∷◌, ◌++◌, Option, Some, None, refl, sym, ap, subst, ◌∙◌, append_assoc, append-nil, ◌≤◌, ◌<◌, ◌+◌, ◌^◌, length, length-append, take, All, cond, arith}
-use Rattle.std.specs.Prelude.{MatchBool, slice_get}
+use Rattle.std.proofs.Common.{◌≡◌, inl, Bool, true, false, List, [], ◌∷◌, ◌++◌, refl, sym, ap, subst, ◌∙◌, append_assoc, ◌≤◌, ◌<◌, length, length-append, All, cond, arith}
+use Rattle.std.specs.Prelude.{MatchBool}
 use Rattle.rand_pcg.specs.Lcg.{Lcg}
 use Rattle.vs_defs.specs.Bytes.{Bytes}
-use Rattle.vs_defs.specs.Stream.{Message, End, Splits, with_words, has_word, place_in, Border, Within, Broken}
-use Rattle.vs_defs.specs.Stream as stream
-use Rattle.vs_defs.specs.Reply.{Outcome, reply, fault_line}
+use Rattle.vs_defs.specs.Stream.{Message, End, Splits, with_words, has_word}
+use Rattle.vs_defs.specs.Reply.{Outcome, reply}
 use Rattle.vs_defs.specs.History.{IsPrefix}
 use Rattle.vs_defs.specs.PlainMachine.{PlainHistory}
 use Rattle.vs_session_defs.specs.Session.{is_bye, quits, replies, last_reply, ending_of, ending_by, closing_line}
 use Rattle.vs_session_defs.specs.Session as session
-use Rattle.vs_outside.specs.Known.{Adds, in_front}
-use Rattle.vs_outside.proofs.KnownBytes.{Adds-trans, in_front-trans}
-use Rattle.vs_stream.specs.Given.{GivenAll, GivenFirst}
-use Rattle.vs_stream.specs.Place.{BeginsStream, IsStream, HasFault}
-use Rattle.vs_stream.proofs.Callers.{EndsSo, ends_border, ends_within, ends_broken_at}
+use Rattle.vs_stream.specs.Given.{GivenFirst}
 use Rattle.vs_resp.specs.declared.Decoder.{Decoder}
 use Rattle.vs_resp.specs.Stands.{Stands}
 use Rattle.vs_defs.proofs.MessageLimits.{IsWithinLimits, answered_few}
 use Rattle.std.proofs.lemmas.List.Elements.{All-tail, All-cons}
-use Rattle.vs_session.specs.declared.end.SessionEnd.TheVariants.{Quit, WriteFault, ReadFault, Spent, NoMemory}
-use Rattle.vs_session.specs.Stage.{Call, Legal, read, draws, Serves, ServesOne}
+use Rattle.vs_session.specs.declared.end.SessionEnd.TheVariants.{Quit, WriteFault}
+use Rattle.vs_session.specs.Stage.{Call, read, draws, Serves, ServesOne}
 use Rattle.vs_session.specs.Own.{IsOwn}
-use Rattle.vs_session.specs.Served.{IsServed}
-use Rattle.vs_session.specs.Connection.{EndsWith, OwnHistory}
-use Rattle.vs_session.specs.SoFar.{SoFar, Answered, Going}
+use Rattle.vs_session.specs.Connection.{EndsWith}
+use Rattle.vs_session.specs.SoFar.{SoFar}
 use Rattle.vs_session.proofs.Serving.{replies_push, quits_push, last_push, serves_push}
 
 -- some messages were answered

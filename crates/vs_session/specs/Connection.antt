@@ -1,7 +1,7 @@
 -- What a connection of its own store takes and writes, by its end.
 --     EndsWith end g input output      g is the generator that its first word is drawn from
 -- The history is one that fits, and holds no change but the connection's own.
-use Rattle.std.specs.Prelude.{◌≡◌, ◌≤◌, ◌^◌, ◌⊎◌, ℕ, [], true, length}
+use Rattle.std.specs.Prelude.{◌≤◌, ◌^◌, ◌⊎◌, [], true, length}
 use Rattle.rand_pcg.specs.Lcg.{Lcg}
 use Rattle.vs_defs.specs.Bytes.{Bytes}
 use Rattle.vs_defs.specs.PlainMachine.{PlainHistory}

@@ -1,5 +1,5 @@
 -- A piece that was written, whole or in part.
-use Rattle.std.specs.Prelude.{◌≡◌, ◌<◌, List, [], ◌++◌, ℕ, length, Option, Bool, true, false}
+use Rattle.std.specs.Prelude.{◌≡◌, ◌<◌, List, ◌++◌, ℕ, length, Option, Bool, true, false}
 use Rattle.vs_outside.specs.Known.{Adds}
 
 -- where it was not written whole, one or more of its last bytes are missing

@@ -1,9 +1,7 @@
-use Rattle.std.proofs.Common.{◌≡◌, ◌≤◌, ◌<◌, List, [], ◌∷◌, ◌++◌, ℕ, sym, ap, subst, ◌∙◌, append_assoc, append-nil, arith, length, true}
+use Rattle.std.proofs.Common.{◌<◌, List, [], ◌∷◌, ◌++◌, sym, subst, ◌∙◌, append_assoc, append-nil, arith, length, true}
 use Rattle.vs_defs.specs.Bytes.{Bytes}
 use Rattle.vs_defs.specs.Stream.{Message}
-use Rattle.rand_pcg.specs.Lcg.{Lcg}
-use Rattle.vs_defs.specs.Reply.{Outcome, reply}
-use Rattle.vs_defs.specs.PlainMachine.{PlainHistory}
+use Rattle.vs_defs.specs.Reply.{reply}
 use Rattle.vs_defs.proofs.MessageLimits.{IsWithinLimits}
 use Rattle.vs_outside.proofs.KnownBytes.{Adds-trans}
 use Rattle.vs_stream.specs.Given.{GivenFirst}

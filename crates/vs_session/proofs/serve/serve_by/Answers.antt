@@ -1,4 +1,4 @@
-use Rattle.std.proofs.Common.{[], ◌≡◌}
+use Rattle.std.proofs.Common.{[]}
 use Rattle.vs_outside.proofs.KnownBytes.{Adds-none, in_front-none}
 use Rattle.vs_session.proofs.Ends.{ends_at_once}
 use Rattle.vs_session.proofs.serve.serve_by.Goals as goal

@@ -1,12 +1,10 @@
-use Rattle.std.proofs.Common.{◌≡◌, ◌≤◌, ◌<◌, ◌+◌, ◌⊎◌, inl, inr, List, [], ◌∷◌, ◌++◌, ℕ, Option, Some, None, Err, sym, ap, subst, ◌∙◌, take, length, append-nil, arith, refl, true, false}
-use Rattle.vs_defs.specs.Bytes.{Bytes}
+use Rattle.std.proofs.Common.{◌≡◌, ◌≤◌, ◌<◌, ◌+◌, [], ◌++◌, ℕ, Some, None, Err, sym, ap, subst, ◌∙◌, take, length, arith, refl, true, false}
 use Rattle.vs_defs.specs.Reply.{fault_line}
-use Rattle.vs_outside.specs.Known.{Adds, in_front}
+use Rattle.vs_outside.specs.Known.{in_front}
 use Rattle.vs_outside.proofs.KnownBytes.{Adds-trans, Adds-none, in_front-none}
-use Rattle.vs_stream.specs.Place.{BeginsStream, IsStream, HasFault}
+use Rattle.vs_stream.specs.Place.{HasFault}
 use Rattle.vs_resp.specs.declared.FeedError.TheVariants.{NoMemory as FeedNoMemory, Protocol as FeedProtocol}
-use Rattle.vs_resp.specs.Stands.{bytes_taken, failure, answer_of, fault_of, FeedMeans}
-use Rattle.vs_session.specs.SoFar.{Going}
+use Rattle.vs_resp.specs.Stands.{bytes_taken, failure, fault_of, FeedMeans}
 use Rattle.vs_session.proofs.Ends.{ok_none, none_kept, err_other, at_start, more_answered, ends_read, ends_spent, ends_memory, ends_whole, ends_cut, ends_fault, loses_line, length_take_le}
 use Rattle.vs_session.proofs.serve.serve_with.Goals as goal
 

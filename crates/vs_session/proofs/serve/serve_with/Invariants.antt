@@ -1,4 +1,4 @@
-use Rattle.std.proofs.Common.{◌≡◌, ◌≤◌, ◌<◌, ◌+◌, ◌-◌, ◌^◌, List, [], ◌++◌, ℕ, None, length}
+use Rattle.std.proofs.Common.{◌≡◌, ◌≤◌, ◌<◌, ◌+◌, ◌-◌, ◌^◌, List, [], None, length}
 use Rattle.vs_defs.specs.Bytes.{Bytes}
 use Rattle.rand_pcg.specs.Lcg.{Lcg}
 use Rattle.vs_defs.specs.Stream.{Message}

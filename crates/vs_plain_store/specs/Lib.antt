@@ -1,0 +1,3 @@
+pub mod StoreKept
+pub mod StoreMemory
+pub mod StoreSeen
