@@ -2,31 +2,17 @@
 use Rattle.std.proofs.Common.{◌≡◌, List, Option, Some, None, Ok, Err, Bool, true, false, length, drop, ◌+◌, refl, ap, ◌∙◌}
 use Rattle.vs_defs.specs.Bytes.{Bytes}
 use Rattle.vs_defs.specs.Request as model
-use Rattle.vs_defs.specs.Read.{Reads, Command, named, commands, word, fits_arity, read_command, read_by, read_known_by, read_key, read_add_form, read_vector, read_name, read_options, find_add_option, no_add_options, read_vadd}
-use Rattle.vs_defs.specs.Stages.{if_built, is_plain, is_unfiltered, find_unfiltered_option, unfiltered_read}
-use Rattle.vs_command.specs.Options.{is_without_filter}
+use Rattle.vs_defs.specs.Read.{Reads, Command, named, commands, word, fits_arity, read_command, read, read_known, read_known_by, find_sim_option, read_key, read_add_form, read_vector, read_name, read_options, find_add_option, no_add_options, read_vadd}
+use Rattle.vs_defs.specs.Stages.{if_built, is_plain, plain_read}
 
--- what isn't built is refused in two steps: a search with a filter, and then the others
-search_twice : (s : model.Search) (truth : Bool) (filter : Option Bytes) → s.truth ≡ truth → s.filter ≡ filter → if_built is_unfiltered (Ok (model.Vsim s)) ≡ if_built is_plain (if_built is_without_filter (Ok (model.Vsim s)))
-search_twice s true None t f = rw (t, f) refl
-search_twice s false None t f = rw (t, f) refl
-search_twice s true (Some e) t f = rw (t, f) refl
-search_twice s false (Some e) t f = rw (t, f) refl
+fitting : (words : List Bytes) (c : Command) → fits_arity c (length words) ≡ true → read_known (Some c) words ≡ read_command find_sim_option c words
+fitting words c fits = rw (fits, read_known, read_known_by) refl
 
-built_twice : (r : Reads model.Request) → if_built is_unfiltered r ≡ if_built is_plain (if_built is_without_filter r)
-built_twice (Err e) = refl
-built_twice (Ok (model.Vsim s)) = search_twice s s.truth s.filter refl refl
-built_twice (Ok r) = refl
+known : (words : List Bytes) (c : Command) → named (word words 0) commands ≡ Some c → fits_arity c (length words) ≡ true → read words ≡ read_command find_sim_option c words
+known words c e fits = ap (λ o. read_known o words) e ∙ fitting words c fits
 
-fitting : (words : List Bytes) (c : Command) → fits_arity c (length words) ≡ true → read_known_by find_unfiltered_option (Some c) words ≡ read_command find_unfiltered_option c words
-fitting words c fits = rw (fits, read_known_by) refl
-
-known : (words : List Bytes) (c : Command) → named (word words 0) commands ≡ Some c → fits_arity c (length words) ≡ true → read_by find_unfiltered_option words ≡ read_command find_unfiltered_option c words
-known words c e fits = ap (λ o. read_known_by find_unfiltered_option o words) e ∙ fitting words c fits
-
-pub unfiltered_of : (words : List Bytes) (c : Command) → named (word words 0) commands ≡ Some c → fits_arity c (length words) ≡ true →
-    unfiltered_read words ≡ if_built is_plain (if_built is_without_filter (read_command find_unfiltered_option c words))
-unfiltered_of words c e fits = built_twice (read_by find_unfiltered_option words) ∙ ap (λ r. if_built is_plain (if_built is_without_filter r)) (known words c e fits)
+pub plain_of : (words : List Bytes) (c : Command) → named (word words 0) commands ≡ Some c → fits_arity c (length words) ≡ true → plain_read words ≡ if_built is_plain (read_command find_sim_option c words)
+plain_of words c e fits = ap (if_built is_plain) (known words c e fits)
 
 pub served : (q : model.Request) → is_plain q ≡ true → if_built is_plain (Ok q) ≡ Ok q
 served q e = rw e refl

@@ -2,10 +2,9 @@
 --     value words at                       the word behind the option at a place, which has to stand there
 --     taken option at words                what an option at a place makes of the options, and the place behind it and its value
 --     AreAddOptionsInBounds o              what VADD's options may say; AreSimOptionsInBounds o the same of VSIM
---     is_without_filter request            it is no search with a filter
-use Rattle.std.specs.Prelude.{ℕ, ◌+◌, Bool, true, cond, nat_lt, List, IfSome, Ok, Err, length, is_none}
+use Rattle.std.specs.Prelude.{ℕ, ◌+◌, cond, nat_lt, List, IfSome, Ok, Err, length}
 use Rattle.vs_defs.specs.Bytes.{Bytes}
-use Rattle.vs_defs.specs.Bounds.{IsFrom, IsAttributeInBounds}
+use Rattle.vs_defs.specs.Bounds.{IsFrom, IsAttributeInBounds, IsFilterInBounds}
 use Rattle.vs_defs.specs.Read.{Reads, ◌>>=◌, Takes, Alone, WithValue, AddOptions, SimOptions, word}
 use Rattle.vs_defs.specs.Request as request
 
@@ -20,8 +19,4 @@ abbrev pub AreAddOptionsInBounds : AddOptions → Type 0
 AreAddOptionsInBounds o = IsFrom 1 65536 o.ef × IfSome o.m (IsFrom 4 256) × IfSome o.attr IsAttributeInBounds
 
 abbrev pub AreSimOptionsInBounds : SimOptions → Type 0
-AreSimOptionsInBounds o = IsFrom 1 65536 o.count × IsFrom 1 65536 o.ef × IfSome o.filter_ef (IsFrom 0 2147483647)
-
-abbrev pub is_without_filter : request.Request → Bool
-is_without_filter (request.Vsim s) = is_none s.filter
-is_without_filter r = true
+AreSimOptionsInBounds o = IsFrom 1 65536 o.count × IsFrom 1 65536 o.ef × IfSome o.filter IsFilterInBounds × IfSome o.filter_ef (IsFrom 0 2147483647)

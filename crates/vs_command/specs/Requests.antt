@@ -1,5 +1,4 @@
--- The request that a `Request` stands for. A search has no filter yet.
-use Rattle.std.specs.Prelude.{None}
+-- The request that a `Request` stands for.
 use Rattle.vs_command.specs.declared.request.Request.{Request}
 use Rattle.vs_command.specs.declared.request.Request.TheVariants.{Ping, Quit, Del, Exists, Vadd, Vrem, Vsim, Vcard, Vdim, Vemb, Vlinks, Vinfo, Vgetattr, Vsetattr, Vrandmember, Vismember}
 use Rattle.vs_command.specs.declared.request.Search.{Search}
@@ -20,7 +19,7 @@ search_of s = record {
   attrs = s.attrs;
   count = s.count;
   ef = s.ef;
-  filter = None;
+  filter = s.filter;
   effort = s.effort;
   truth = s.truth;
   nothread = s.nothread;

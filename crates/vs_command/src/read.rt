@@ -1,14 +1,13 @@
 //! Reads a message: its command, the number of its words, and the words from left to right. The first that doesn't fit
 //! decides.
 ghost use Rattle.std.specs.Prelude.{◌≡◌, ◌<◌, ◌≤◌, ◌+◌, ◌^◌, ℕ, All, length, drop, true, IfOk, IfSome, List as Items};
-ghost use Rattle.vs_command.specs.Options.{is_without_filter};
-ghost use Rattle.vs_command.specs.Readings.{Gives, GivesPlain, AreShort, IsWanting};
+ghost use Rattle.vs_command.specs.Readings.{Gives, GivesRequest, AreShort, IsWanting};
 ghost use Rattle.vs_command.specs.Requests.{request_of};
 ghost use Rattle.vs_command.specs.Words.{command_seen};
 ghost use Rattle.vs_defs.specs.Bounds.{IsInBounds, IsNameInBounds, IsPickCount};
 ghost use Rattle.vs_defs.specs.Read.{fits_arity, read_keys as keys_in, read_member as member_in, read_raw as raw_in, read_withscores as withscores_in, read_picks as picks_in};
 ghost use Rattle.vs_defs.specs.Read as command;
-ghost use Rattle.vs_defs.specs.Stages.{is_plain, unfiltered_read};
+ghost use Rattle.vs_defs.specs.Stages.{is_plain, plain_read};
 
 use crate::command::Command;
 use crate::vadd::read_vadd;
@@ -48,7 +47,7 @@ fn read_member(words: &[Text]) -> Result<(Text, Text), Refusal>
 
 fn read_ping(words: &[Text]) -> Result<Request, Refusal>
     requires { 1 ≤ length words.now }
-    ensures ping { GivesPlain result command.Ping words.now }
+    ensures ping { GivesRequest result command.Ping words.now }
     ensures bounds { IfOk result (λ r. IsInBounds (request_of r)) }
     ensures memory { length words.now ≡ 1 → IsWanting result → ⊥ }
 {
@@ -61,7 +60,7 @@ fn read_ping(words: &[Text]) -> Result<Request, Refusal>
 fn read_del(alloc: Global, words: &[Text]) -> Result<Request, Refusal>
     requires arity { 2 ≤ length words.now }
     requires short { AreShort words.now }
-    ensures del { GivesPlain result command.Del words.now }
+    ensures del { GivesRequest result command.Del words.now }
     ensures bounds { IfOk result (λ r. IsInBounds (request_of r)) }
 {
     let keys = read_keys(alloc, &words[1..])?;
@@ -71,7 +70,7 @@ fn read_del(alloc: Global, words: &[Text]) -> Result<Request, Refusal>
 fn read_exists(alloc: Global, words: &[Text]) -> Result<Request, Refusal>
     requires arity { 2 ≤ length words.now }
     requires short { AreShort words.now }
-    ensures exists { GivesPlain result command.Exists words.now }
+    ensures exists { GivesRequest result command.Exists words.now }
     ensures bounds { IfOk result (λ r. IsInBounds (request_of r)) }
 {
     let keys = read_keys(alloc, &words[1..])?;
@@ -81,7 +80,7 @@ fn read_exists(alloc: Global, words: &[Text]) -> Result<Request, Refusal>
 fn read_vrem(words: &[Text]) -> Result<Request, Refusal>
     requires arity { 3 ≤ length words.now }
     requires short { AreShort words.now }
-    ensures vrem { GivesPlain result command.Vrem words.now }
+    ensures vrem { GivesRequest result command.Vrem words.now }
     ensures bounds { IfOk result (λ r. IsInBounds (request_of r)) }
 {
     let (key, name) = read_member(words)?;
@@ -91,7 +90,7 @@ fn read_vrem(words: &[Text]) -> Result<Request, Refusal>
 fn read_vcard(words: &[Text]) -> Result<Request, Refusal>
     requires arity { 2 ≤ length words.now }
     requires short { AreShort words.now }
-    ensures vcard { GivesPlain result command.Vcard words.now }
+    ensures vcard { GivesRequest result command.Vcard words.now }
     ensures bounds { IfOk result (λ r. IsInBounds (request_of r)) }
 {
     let key = read_key(word(words, 1))?;
@@ -101,7 +100,7 @@ fn read_vcard(words: &[Text]) -> Result<Request, Refusal>
 fn read_vdim(words: &[Text]) -> Result<Request, Refusal>
     requires arity { 2 ≤ length words.now }
     requires short { AreShort words.now }
-    ensures vdim { GivesPlain result command.Vdim words.now }
+    ensures vdim { GivesRequest result command.Vdim words.now }
     ensures bounds { IfOk result (λ r. IsInBounds (request_of r)) }
 {
     let key = read_key(word(words, 1))?;
@@ -111,7 +110,7 @@ fn read_vdim(words: &[Text]) -> Result<Request, Refusal>
 fn read_vinfo(words: &[Text]) -> Result<Request, Refusal>
     requires arity { 2 ≤ length words.now }
     requires short { AreShort words.now }
-    ensures vinfo { GivesPlain result command.Vinfo words.now }
+    ensures vinfo { GivesRequest result command.Vinfo words.now }
     ensures bounds { IfOk result (λ r. IsInBounds (request_of r)) }
 {
     let key = read_key(word(words, 1))?;
@@ -131,7 +130,7 @@ fn read_raw(rest: &[Text]) -> Result<(), Refusal>
 fn read_vemb(words: &[Text]) -> Result<Request, Refusal>
     requires arity { 3 ≤ length words.now }
     requires short { AreShort words.now }
-    ensures vemb { GivesPlain result command.Vemb words.now }
+    ensures vemb { GivesRequest result command.Vemb words.now }
     ensures bounds { IfOk result (λ r. IsInBounds (request_of r)) }
 {
     let (key, name) = read_member(words)?;
@@ -152,7 +151,7 @@ fn read_withscores(rest: &[Text]) -> Result<bool, Refusal>
 fn read_vlinks(words: &[Text]) -> Result<Request, Refusal>
     requires arity { 3 ≤ length words.now }
     requires short { AreShort words.now }
-    ensures vlinks { GivesPlain result command.Vlinks words.now }
+    ensures vlinks { GivesRequest result command.Vlinks words.now }
     ensures bounds { IfOk result (λ r. IsInBounds (request_of r)) }
 {
     let (key, name) = read_member(words)?;
@@ -163,7 +162,7 @@ fn read_vlinks(words: &[Text]) -> Result<Request, Refusal>
 fn read_vgetattr(words: &[Text]) -> Result<Request, Refusal>
     requires arity { 3 ≤ length words.now }
     requires short { AreShort words.now }
-    ensures vgetattr { GivesPlain result command.Vgetattr words.now }
+    ensures vgetattr { GivesRequest result command.Vgetattr words.now }
     ensures bounds { IfOk result (λ r. IsInBounds (request_of r)) }
 {
     let (key, name) = read_member(words)?;
@@ -173,7 +172,7 @@ fn read_vgetattr(words: &[Text]) -> Result<Request, Refusal>
 fn read_vsetattr(words: &[Text]) -> Result<Request, Refusal>
     requires arity { 4 ≤ length words.now }
     requires short { AreShort words.now }
-    ensures vsetattr { GivesPlain result command.Vsetattr words.now }
+    ensures vsetattr { GivesRequest result command.Vsetattr words.now }
     ensures bounds { IfOk result (λ r. IsInBounds (request_of r)) }
 {
     let (key, name) = read_member(words)?;
@@ -184,7 +183,7 @@ fn read_vsetattr(words: &[Text]) -> Result<Request, Refusal>
 fn read_vismember(words: &[Text]) -> Result<Request, Refusal>
     requires arity { 3 ≤ length words.now }
     requires short { AreShort words.now }
-    ensures vismember { GivesPlain result command.Vismember words.now }
+    ensures vismember { GivesRequest result command.Vismember words.now }
     ensures bounds { IfOk result (λ r. IsInBounds (request_of r)) }
 {
     let (key, name) = read_member(words)?;
@@ -208,7 +207,7 @@ fn read_picks(rest: &[Text]) -> Result<Option<i32>, Refusal>
 fn read_vrandmember(words: &[Text]) -> Result<Request, Refusal>
     requires arity { 2 ≤ length words.now }
     requires short { AreShort words.now }
-    ensures vrandmember { GivesPlain result command.Vrandmember words.now }
+    ensures vrandmember { GivesRequest result command.Vrandmember words.now }
     ensures bounds { IfOk result (λ r. IsInBounds (request_of r)) }
 {
     let key = read_key(word(words, 1))?;
@@ -220,7 +219,7 @@ fn read_vrandmember(words: &[Text]) -> Result<Request, Refusal>
 fn read_addition(alloc: Global, words: &[Text]) -> Result<Request, Refusal>
     requires arity { 5 ≤ length words.now }
     requires short { AreShort words.now }
-    ensures vadd { GivesPlain result command.Vadd words.now }
+    ensures vadd { GivesRequest result command.Vadd words.now }
     ensures bounds { IfOk result (λ r. IsInBounds (request_of r)) }
 {
     let add = read_vadd(alloc, words)?;
@@ -231,7 +230,7 @@ fn read_addition(alloc: Global, words: &[Text]) -> Result<Request, Refusal>
 fn read_search(alloc: Global, words: &[Text]) -> Result<Request, Refusal>
     requires arity { 4 ≤ length words.now }
     requires short { AreShort words.now }
-    ensures vsim { GivesPlain result command.Vsim words.now }
+    ensures vsim { GivesRequest result command.Vsim words.now }
     ensures bounds { IfOk result (λ r. IsInBounds (request_of r)) }
 {
     let search = read_vsim(alloc, words)?;
@@ -242,7 +241,7 @@ fn read_search(alloc: Global, words: &[Text]) -> Result<Request, Refusal>
 fn read_command(alloc: Global, command: Command, words: &[Text]) -> Result<Request, Refusal>
     requires arity { fits_arity (command_seen command) (length words.now) ≡ true }
     requires short { AreShort words.now }
-    ensures request { GivesPlain result (command_seen command) words.now }
+    ensures request { GivesRequest result (command_seen command) words.now }
     ensures bounds { IfOk result (λ r. IsInBounds (request_of r)) }
     ensures memory { length words.now ≡ 1 → IsWanting result → ⊥ }
 {
@@ -280,12 +279,12 @@ fn is_served(request: &Request) -> bool
 /// The request that a message of these words asks for, or the first cause for which it is refused. Words of commands and
 /// options are compared without regard to ASCII case; an option may be repeated, and the last one counts.
 ///
-/// A form that is not served yet is refused as `NotBuilt`, behind every cause in its words: VLINKS, VINFO, a VSIM without
-/// TRUTH, and a VSIM with FILTER, of whose text the length alone is looked at.
+/// A form that is not served yet is refused as `NotBuilt`, behind every cause in its words: VLINKS, VINFO, and a VSIM
+/// without TRUTH.
 pub fn read_request(alloc: Global, words: &[Text]) -> Result<Request, Refusal>
     requires some { 1 ≤ length words.now }
     requires short { AreShort words.now }
-    ensures request { Gives request_of result (unfiltered_read words.now) }
+    ensures request { Gives request_of result (plain_read words.now) }
     ensures bounds { IfOk result (λ r. IsInBounds (request_of r)) }
     ensures memory { length words.now ≡ 1 → IsWanting result → ⊥ }
 {

@@ -1,5 +1,6 @@
 //! What a message asks for.
 use vs_bits::{Add, Bits};
+use vs_filter::Filter;
 use vs_outside::{List, Text};
 
 /// What a search looks for: the vector of a member, or a vector of its own.
@@ -18,6 +19,7 @@ pub struct Search {
     pub attrs: bool,
     pub count: u32,
     pub ef: u32,
+    pub filter: Option<Filter>,
     pub effort: u32,
     pub truth: bool,
     pub nothread: bool,

@@ -346,7 +346,7 @@ const ADDITIONS: [(&str, &str); 61] = [
     ),
 ];
 
-const SEARCHES: [(&str, &str); 62] = [
+const SEARCHES: [(&str, &str); 66] = [
     (
         "VSIM k ELE n TRUTH",
         "Vsim k ele n count 10 ef 100 effort 0 truth",
@@ -432,9 +432,9 @@ const SEARCHES: [(&str, &str); 62] = [
     ("VSIM k ELE n EPSILON 0.5", "Epsilon { at: 4 }"),
     ("VSIM k ELE n TRUTH epsilon x", "Epsilon { at: 5 }"),
     ("VSIM k ELE n EPSILON FOO", "Epsilon { at: 4 }"),
-    ("VSIM k ELE n FILTER ~0 TRUTH", "NotBuilt"),
-    ("VSIM k ELE n FILTER ( TRUTH", "NotBuilt"),
-    ("VSIM k ELE n FILTER ~4096 TRUTH", "NotBuilt"),
+    ("VSIM k ELE n FILTER ~0 TRUTH", "FilterSyntax { at: 0 }"),
+    ("VSIM k ELE n FILTER ( TRUTH", "FilterSyntax { at: 1 }"),
+    ("VSIM k ELE n FILTER ~4096 TRUTH", "FilterSyntax { at: 0 }"),
     (
         "VSIM k ELE n FILTER ~4097 TRUTH",
         "LongFilter { len: 4097 }",
@@ -451,7 +451,10 @@ const SEARCHES: [(&str, &str); 62] = [
         "VSIM k ELE n FILTER .a FILTER ~4097",
         "LongFilter { len: 4097 }",
     ),
-    ("VSIM k ELE n FILTER ( COUNT 0", "BadCount { at: 7 }"),
+    ("VSIM k ELE n FILTER ( COUNT 0", "FilterSyntax { at: 1 }"),
+    ("VSIM k ELE n COUNT 0 FILTER (", "BadCount { at: 5 }"),
+    ("VSIM k ELE n FILTER ( FILTER .a", "FilterSyntax { at: 1 }"),
+    ("VSIM k ELE n FILTER .a FILTER (", "FilterSyntax { at: 1 }"),
     ("VSIM k ELE n FILTER .a FOO", "UnknownOption { at: 6 }"),
     (
         "VSIM k ELE n FILTER .a FILTER-EF x",
@@ -459,7 +462,14 @@ const SEARCHES: [(&str, &str); 62] = [
     ),
     ("VSIM k ELE n FILTER", "MissingValue { at: 4 }"),
     ("VSIM k ELE n FILTER .a", "NotBuilt"),
-    ("VSIM k ELE n FILTER-EF 9 FILTER .a TRUTH", "NotBuilt"),
+    (
+        "VSIM k ELE n FILTER .a COUNT 7 TRUTH",
+        "Vsim k ele n count 7 ef 100 effort 700 filter truth",
+    ),
+    (
+        "VSIM k ELE n FILTER-EF 9 FILTER .a TRUTH",
+        "Vsim k ele n count 10 ef 100 effort 9 filter truth",
+    ),
     ("VSIM k ELE n FOO", "UnknownOption { at: 4 }"),
     ("VSIM k ELE n FOO COUNT 0", "UnknownOption { at: 4 }"),
     ("VSIM k ELE n COUNT 0 FOO", "BadCount { at: 5 }"),
@@ -472,6 +482,25 @@ const SEARCHES: [(&str, &str); 62] = [
         "UnknownOption { at: 6 }",
     ),
     ("VSIM k ELE n TRUTH COUNT 5 COUNT", "MissingValue { at: 7 }"),
+];
+
+// The texts of filters, with what a search by each is refused with.
+const FILTERS: [(&str, &str); 6] = [
+    (".year >", "FilterSyntax { at: 7 }"),
+    ("1 and", "FilterSyntax { at: 5 }"),
+    ("notx 1", "FilterSyntax { at: 0 }"),
+    (
+        "(((((((((((((((((((((((((((((((((((((((((((((((((((((((((((((((((1",
+        "FilterTooDeep { at: 64 }",
+    ),
+    (
+        "!!!!!!!!!!!!!!!!!!!!!!!!!!!!!!!!!!!!!!!!!!!!!!!!!!!!!!!!!!!!!!!!!1",
+        "FilterTooDeep { at: 64 }",
+    ),
+    (
+        ".year >= 1980 and .rating > 8.5",
+        "Vsim k ele n count 10 ef 100 effort 1000 filter truth",
+    ),
 ];
 
 // A text as it is, or its length where it is empty, long or no UTF-8.
@@ -553,6 +582,7 @@ fn show_search(alloc: Global, search: &Search) -> Result<String, AllocError> {
         search.effort
     )?;
     for (flag, name) in [
+        (search.filter.is_some(), " filter"),
         (search.scores, " scores"),
         (search.attrs, " attrs"),
         (search.truth, " truth"),
@@ -636,23 +666,31 @@ fn are_short(words: &[Text]) -> bool
     words.len() < 4294967296 && words.iter().all(|word| word.len() < 4294967296)
 }
 
+fn read_words(alloc: Global, rt: &impl Abort, words: &[Text]) -> Result<Request, Refusal> {
+    assert!(rt; words.len() > 0);
+    assert!(rt; are_short(words));
+    read_request(alloc, words)
+}
+
 fn read_line(
     alloc: Global,
     rt: &impl Abort,
     line: &str,
 ) -> Result<Result<Request, Refusal>, AllocError> {
     let words = words_of(alloc, line)?;
-    assert!(rt; words.len() > 0);
-    assert!(rt; are_short(words.as_slice()));
-    Ok(read_request(alloc, words.as_slice()))
+    Ok(read_words(alloc, rt, words.as_slice()))
+}
+
+fn show(alloc: Global, read: Result<Request, Refusal>) -> Result<String, AllocError> {
+    match read {
+        Ok(request) => show_request(alloc, &request),
+        Err(refusal) => format!(in alloc; "{refusal:?}"),
+    }
 }
 
 fn check(alloc: Global, rt: &impl Abort, cases: &[(&str, &str)]) -> Result<(), AllocError> {
     for (line, wanted) in cases {
-        let shown = match read_line(alloc, rt, line)? {
-            Ok(request) => show_request(alloc, &request)?,
-            Err(refusal) => format!(in alloc; "{refusal:?}")?,
-        };
+        let shown = show(alloc, read_line(alloc, rt, line)?)?;
         assert_eq!(rt; shown.as_str(), *wanted, "{line}");
     }
     Ok(())
@@ -666,6 +704,18 @@ fn reads_lines(rt: HostRuntime) -> Result<(), Fail> {
     check(alloc, &rt, &VECTORS)?;
     check(alloc, &rt, &ADDITIONS)?;
     check(alloc, &rt, &SEARCHES)?;
+    Ok(())
+}
+
+#[test]
+fn reads_filters(rt: HostRuntime) -> Result<(), Fail> {
+    let alloc = rt.alloc();
+    for (filter, wanted) in FILTERS {
+        let mut words = words_of(alloc, "VSIM k ELE n TRUTH FILTER")?;
+        words.push(Text::from_vec(filter.as_bytes().to_vec(alloc)?))?;
+        let shown = show(alloc, read_words(alloc, &rt, words.as_slice()))?;
+        assert_eq!(rt; shown.as_str(), wanted, "{filter}");
+    }
     Ok(())
 }
 

@@ -1,19 +1,18 @@
 //! VSIM: what is looked for, and options.
 ghost use Rattle.std.specs.Prelude.{◌≡◌, ◌<◌, ◌≤◌, ◌+◌, ◌^◌, length, drop, option_map, IfOk};
-ghost use Rattle.std.specs.Option.{option_copied};
-ghost use Rattle.vs_command.specs.Options.{taken, AreSimOptionsInBounds, is_without_filter};
+ghost use Rattle.vs_command.specs.Options.{taken, AreSimOptionsInBounds};
 ghost use Rattle.vs_command.specs.Readings.{Gives, AreShort};
 ghost use Rattle.vs_command.specs.Requests.{search_of, what_of};
 ghost use Rattle.vs_command.specs.Words.{sim_option_seen, sim_options_seen};
-ghost use Rattle.vs_defs.specs.Bounds.{IsFrom, IsSearchInBounds, IsWhatInBounds};
-ghost use Rattle.vs_defs.specs.Read.{sim_option, sim_options, named, no_sim_options, effort_of, read_filter_length, read_number, read_options, read_what as what_in, read_vsim as vsim_in};
-ghost use Rattle.vs_defs.specs.Stages.{find_unfiltered_option, if_built};
+ghost use Rattle.vs_defs.specs.Bounds.{IsFrom, IsFilterInBounds, IsSearchInBounds, IsWhatInBounds};
+ghost use Rattle.vs_defs.specs.Read.{find_sim_option, sim_option, sim_options, named, no_sim_options, effort_of, read_filter as filter_in, read_number, read_options, read_what as what_in, read_vsim as vsim_in};
 ghost use Rattle.vs_defs.specs.Request as request;
 
 use crate::vector::read_vector;
 use crate::word::{is_word, number_within, read_ef, read_key, read_name, value, word};
 use crate::{Refusal, Search, What};
 use std::alloc::Global;
+use vs_filter::{Filter, FilterError};
 use vs_outside::Text;
 
 /// The most bytes of a filter.
@@ -76,34 +75,39 @@ fn read_filter_ef(word: &Text, at: usize) -> Result<u32, Refusal>
     number_within(word, 0, 2147483647).ok_or(Refusal::BadFilterEf { at: at as u32 })
 }
 
-// Of a filter's text the length alone is looked at.
-fn read_filter(text: &Text) -> Result<&Text, Refusal>
+fn read_filter(alloc: Global, text: &Text) -> Result<Filter, Refusal>
     requires { length text.now < 2 ^ 32 }
-    ensures { Gives (λ filter. filter.now) result (read_filter_length text.now) }
+    ensures filter { Gives (λ filter. filter) result (filter_in text.now) }
+    ensures bounds { IfOk result IsFilterInBounds }
 {
     if text.len() > FILTER_BYTES {
         return Err(Refusal::LongFilter {
             len: text.len() as u32,
         });
     }
-    Ok(text)
+    match Filter::parse(alloc, text.as_slice()) {
+        Ok(filter) => Ok(filter),
+        Err(FilterError::Syntax { at }) => Err(Refusal::FilterSyntax { at }),
+        Err(FilterError::TooDeep { at }) => Err(Refusal::FilterTooDeep { at }),
+        Err(FilterError::NoMemory) => Err(Refusal::NoMemory),
+    }
 }
 
 /// What the options say; of a repeated one the last counts.
 #[derive(Drop)]
-struct SimOptions<'a> {
+struct SimOptions {
     scores: bool,
     attrs: bool,
     count: u32,
     ef: u32,
-    filter: Option<&'a Text>,
+    filter: Option<Filter>,
     filter_ef: Option<u32>,
     truth: bool,
     nothread: bool,
 }
 
-impl<'a> SimOptions<'a> {
-    fn new() -> SimOptions<'a>
+impl SimOptions {
+    fn new() -> SimOptions
         ensures { sim_options_seen result ≡ no_sim_options }
     {
         SimOptions {
@@ -119,10 +123,16 @@ impl<'a> SimOptions<'a> {
     }
 
     // Takes the option at a place, with its value where it has one, and gives the place behind them.
-    fn take(&mut self, option: SimOption, at: usize, words: &'a [Text]) -> Result<usize, Refusal>
+    fn take(
+        &mut self,
+        alloc: Global,
+        option: SimOption,
+        at: usize,
+        words: &[Text],
+    ) -> Result<usize, Refusal>
         requires within { at < length words.now }
         requires short { AreShort words.now }
-        ensures options { Gives (λ next. (sim_options_seen self.new, next)) result (taken (sim_option read_filter_length (sim_options_seen self.old) at (sim_option_seen option)) at words.now) }
+        ensures options { Gives (λ next. (sim_options_seen self.new, next)) result (taken (sim_option filter_in (sim_options_seen self.old) at (sim_option_seen option)) at words.now) }
         ensures within { IfOk result (λ next. (at < next) × (next ≤ length words.now)) }
         ensures bounds { AreSimOptionsInBounds (sim_options_seen self.old) → IfOk result (λ next. AreSimOptionsInBounds (sim_options_seen self.new)) }
     {
@@ -157,7 +167,7 @@ impl<'a> SimOptions<'a> {
                 Ok(at + 2)
             }
             SimOption::Filter => {
-                self.filter = Some(read_filter(value(words, at)?)?);
+                self.filter = Some(read_filter(alloc, value(words, at)?)?);
                 Ok(at + 2)
             }
         }
@@ -168,7 +178,7 @@ impl<'a> SimOptions<'a> {
         requires { self.now.count ≤ 65536 }
         ensures { result ≡ effort_of (sim_options_seen self.now).filter (sim_options_seen self.now).filter_ef self.now.count }
     {
-        match (self.filter, self.filter_ef) {
+        match (&self.filter, self.filter_ef) {
             (None, _) => 0,
             (Some(_), None) => 100 * self.count,
             (Some(_), Some(limit)) => limit,
@@ -177,10 +187,10 @@ impl<'a> SimOptions<'a> {
 }
 
 // The options, from a place to the message's end.
-fn read_sim_options(start: usize, words: &[Text]) -> Result<SimOptions, Refusal>
+fn read_sim_options(alloc: Global, start: usize, words: &[Text]) -> Result<SimOptions, Refusal>
     requires within { start ≤ length words.now }
     requires short { AreShort words.now }
-    ensures options { Gives sim_options_seen result (read_options find_unfiltered_option no_sim_options start (drop start words.now)) }
+    ensures options { Gives sim_options_seen result (read_options find_sim_option no_sim_options start (drop start words.now)) }
     ensures bounds { IfOk result (λ o. AreSimOptionsInBounds (sim_options_seen o)) }
 {
     let mut options = SimOptions::new();
@@ -189,7 +199,7 @@ fn read_sim_options(start: usize, words: &[Text]) -> Result<SimOptions, Refusal>
         let Some(option) = SimOption::named(word(words, at)) else {
             return Err(Refusal::UnknownOption { at: at as u32 });
         };
-        at = options.take(option, at, words)?;
+        at = options.take(alloc, option, at, words)?;
     }
     Ok(options)
 }
@@ -216,19 +226,17 @@ fn read_what(alloc: Global, words: &[Text]) -> Result<(What, usize), Refusal>
     }
 }
 
-/// Reads a VSIM. A search with a filter is not served yet.
+/// Reads a VSIM.
 pub(crate) fn read_vsim(alloc: Global, words: &[Text]) -> Result<Search, Refusal>
     requires arity { 4 ≤ length words.now }
     requires short { AreShort words.now }
-    ensures search { Gives (λ search. request.Vsim (search_of search)) result (if_built is_without_filter (vsim_in find_unfiltered_option words.now)) }
+    ensures search { Gives (λ search. request.Vsim (search_of search)) result (vsim_in find_sim_option words.now) }
     ensures bounds { IfOk result (λ search. IsSearchInBounds (search_of search)) }
 {
     let key = read_key(word(words, 1))?;
     let (what, options_at) = read_what(alloc, words)?;
-    let options = read_sim_options(options_at, words)?;
-    if options.filter.is_some() {
-        return Err(Refusal::NotBuilt);
-    }
+    let options = read_sim_options(alloc, options_at, words)?;
+    let effort = options.effort();
     Ok(Search {
         key,
         what,
@@ -236,7 +244,8 @@ pub(crate) fn read_vsim(alloc: Global, words: &[Text]) -> Result<Search, Refusal
         attrs: options.attrs,
         count: options.count,
         ef: options.ef,
-        effort: options.effort(),
+        filter: options.filter,
+        effort,
         truth: options.truth,
         nothread: options.nothread,
     })

@@ -97,6 +97,34 @@ fn hits<F: Testing + Drop, L: Ledger>(
     nearest(alloc, set, query, count, &wanted, &mut reads)
 }
 
+// The first COUNT of the members that pass the search's filter, by distance, then name.
+fn passing<L: Ledger>(
+    alloc: Global,
+    set: &Set,
+    query: &Bits,
+    search: &Search,
+    blank: Blank,
+) -> Result<List<Hit>, NoMemory>
+    requires name { blank.name ≡ L.name }
+    requires parts { blank.parts ≡ L.parts }
+    requires some { 0 < L.parts }
+    requires dim { length query.now ≡ set.now.1.dim }
+    requires kept { IsKept set.now.1.dim set.now.1.members }
+    ensures { IfOk result (λ hits. AreHits query.now set.now.1.members (truth.nearest search.now.count query.now search.now.filter set.now.1.members) hits) }
+{
+    let count = search.count;
+    match &search.filter {
+        None => {
+            let any = |_: Option<&[u8]>| true;
+            hits::<_, L>(alloc, set, query, count, any, blank)
+        }
+        Some(filter) => {
+            let by_filter = |attr: Option<&[u8]>| filter.passes(attr);
+            hits::<_, L>(alloc, set, query, count, by_filter, blank)
+        }
+    }
+}
+
 impl Set {
     /// What a search with TRUTH answers: the first COUNT members that pass, by distance, then name.
     pub fn search(&self, alloc: Global, search: &Search) -> Result<Answer, Refusal>
@@ -108,8 +136,7 @@ impl Set {
         let dim = self.dim();
         let query = query(self, &search.what)?;
         let blank = Blank::new(1);
-        let any = |_: Option<&[u8]>| true;
-        let hits = hits::<_, Brand>(alloc, self, query, search.count, any, blank)?;
+        let hits = passing::<Brand>(alloc, self, query, search, blank)?;
         Ok(Answer::Hits {
             dim,
             scores: search.scores,

@@ -8,6 +8,7 @@ use std::alloc::Global;
 use std::test::Fail;
 use vs_bits::{Add, Bits, Sign};
 use vs_command::{Answer, Refusal, Search, What};
+use vs_filter::Filter;
 use vs_outside::{List, NoMemory, Text};
 use vs_truth::Members;
 
@@ -179,6 +180,7 @@ fn search_for(alloc: Global, what: What, count: u32) -> Result<Search, NoMemory>
         attrs: false,
         count,
         ef: 200,
+        filter: None,
         effort: 0,
         truth: true,
         nothread: false,
@@ -210,6 +212,22 @@ fn found_by_distance_then_name(rt: HostRuntime) -> Result<(), Fail> {
         let answer = set.search(rt.alloc(), &search_for(rt.alloc(), what, count)?)?;
         assert!(rt; has_found(&answer, want), "the first {count} from {plus:?}");
     }
+    Ok(())
+}
+
+#[test]
+fn found_by_a_filter(rt: HostRuntime) -> Result<(), Fail> {
+    let alloc = rt.alloc();
+    let film = add_of(alloc, b"a", Some(b"{\"year\":1984,\"rating\":8.6}"))?;
+    let mut set = Set::of_one(alloc, film, 0, 1)?;
+    put(&mut set, add_of(alloc, b"b", Some(b"{\"year\":1984}"))?)?;
+    put(&mut set, add_of(alloc, b"c", Some(b"x"))?)?;
+    put(&mut set, add_of(alloc, b"d", None)?)?;
+    let what = What::Values(bits_of(alloc, &[true, true, true])?);
+    let mut search = search_for(alloc, what, 9)?;
+    search.filter = Filter::parse(alloc, b".year >= 1980 and .rating > 8.5").ok();
+    let answer = set.search(alloc, &search)?;
+    assert!(rt; has_found(&answer, &[(b"a", 1)]));
     Ok(())
 }
 

@@ -1,7 +1,6 @@
 //! What the program does, over any source and sink.
 #![tactic(auto)]
 
-mod alone;
 mod run;
 mod status;
 

@@ -4,10 +4,10 @@ ghost use Rattle.vs_outside.specs.Known.{Adds};
 ghost use Rattle.vs_words.specs.Words.{job_named};
 ghost use Rattle.vs_program.specs.Jobs.{Does, Refuses, bad_words};
 
-use crate::alone::serve_alone;
 use crate::status::{Status, status_at};
 use std::alloc::Global;
 use vs_outside::{Sink, Source, Text};
+use vs_server::serve_alone;
 use vs_session::write_all;
 use vs_words::{Job, WordsError, read_words};
 

@@ -1,14 +1,14 @@
 -- How a message was served, from what was read, drawn and done.
 use Rattle.std.proofs.Common.{◌≡◌, ℕ, zero, suc, length, Bool, true, false, List, Option, Some, None, Result, Ok, Err, refl, sym, ap, subst, ◌∙◌, inl, inr, cond}
-use Rattle.std.specs.Prelude.{IfSome, ◌&&◌, is_none}
+use Rattle.std.specs.Prelude.{IfSome}
 use Rattle.rand_pcg.specs.Lcg.{Lcg}
 use Rattle.vs_defs.specs.Request as request
 use Rattle.vs_defs.specs.Stream.{Message}
 use Rattle.vs_defs.specs.Bounds.{IsInBounds}
 use Rattle.vs_defs.specs.Reply.{Outcome}
 use Rattle.vs_defs.specs.Reply as outcome
-use Rattle.vs_defs.specs.Read.{read_by}
-use Rattle.vs_defs.specs.Stages.{is_plain, is_unfiltered, if_built, find_unfiltered_option}
+use Rattle.vs_defs.specs.Read.{read as read_words}
+use Rattle.vs_defs.specs.Stages.{is_plain, if_built}
 use Rattle.vs_defs.specs.Store.{PlainStore}
 use Rattle.vs_defs.specs.PlainMachine.{PlainHistory, PlainDoes}
 use Rattle.vs_session_defs.specs.Session as session
@@ -30,30 +30,8 @@ is_built : (test : request.Request → Bool) (x : Result request.Request request
 is_built test (Ok q) r e = is_built_at test (test q) q r refl e
 is_built test (Err e) r is = absurd (cc)
 
-truth : (b c : Bool) → (b && c) ≡ true → b ≡ true
-truth true c e = refl
-truth false c e = absurd (cc)
-
-unfiltered_is_plain : (r : request.Request) → is_unfiltered r ≡ true → is_plain r ≡ true
-unfiltered_is_plain (request.Vsim s) e = truth s.truth (is_none s.filter) e
-unfiltered_is_plain (request.Ping text) e = refl
-unfiltered_is_plain request.Quit e = refl
-unfiltered_is_plain (request.Del keys) e = refl
-unfiltered_is_plain (request.Exists keys) e = refl
-unfiltered_is_plain (request.Vadd add) e = refl
-unfiltered_is_plain (request.Vrem key name) e = refl
-unfiltered_is_plain (request.Vcard key) e = refl
-unfiltered_is_plain (request.Vdim key) e = refl
-unfiltered_is_plain (request.Vemb key name) e = refl
-unfiltered_is_plain (request.Vlinks key name scores) e = absurd (cc)
-unfiltered_is_plain (request.Vinfo key) e = absurd (cc)
-unfiltered_is_plain (request.Vgetattr key name) e = refl
-unfiltered_is_plain (request.Vsetattr key name text) e = refl
-unfiltered_is_plain (request.Vrandmember key n) e = refl
-unfiltered_is_plain (request.Vismember key name) e = refl
-
 pub read_is_plain : (message : Message) (r : request.Request) → read message ≡ Ok r → is_plain r ≡ true
-read_is_plain message r e = unfiltered_is_plain r (is_built is_unfiltered (read_by find_unfiltered_option message) r e)
+read_is_plain message r e = is_built is_plain (read_words message) r e
 
 -- ---- what is drawn
 

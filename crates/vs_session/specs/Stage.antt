@@ -4,7 +4,7 @@ use Rattle.rand_pcg.specs.Lcg.{Lcg}
 use Rattle.vs_defs.specs.Bytes.{Bytes}
 use Rattle.vs_defs.specs.Request.{Request, Refusal}
 use Rattle.vs_defs.specs.Read as reading
-use Rattle.vs_defs.specs.Stages.{unfiltered_read}
+use Rattle.vs_defs.specs.Stages.{plain_read}
 use Rattle.vs_defs.specs.Reply.{Outcome}
 use Rattle.vs_defs.specs.Store.{PlainStore, usual_limits}
 use Rattle.vs_defs.specs.Stream.{Message}
@@ -15,7 +15,7 @@ abbrev pub Call : ℕ → PlainHistory → Request → List ℕ → Outcome → 
 Call = PlainCall usual_limits
 
 abbrev pub read : List Bytes → Result Request Refusal
-read = unfiltered_read
+read = plain_read
 
 abbrev pub draws : Request → ℕ
 draws = reading.draws

@@ -9,16 +9,13 @@ use Rattle.vs_plain_set.specs.Found.{hit_at}
 use Rattle.vs_plain_set.proofs.Named.{all_within, named_is, all_few}
 use Rattle.vs_plain_set.proofs.set.Set.search.Goals as goal
 
-pub hits-requires-clause-answers : goal.hits-requires-clause-answers
-hits-requires-clause-answers c = ∣ (λ attr. true, search rules) ∣₁
-
 pub named-requires : goal.named-requires
 named-requires c =
     let q = c.in_ok-query.query.now in
     let members = c.args.self.now.1.members in
-    let are = c.in_ok-hits.ensures None (search rules) in
+    let are = c.in_ok-hits.ensures in
     All-same (λ (h : Hit). h.place < length members) c.as_slice.result.now c.in_ok-hits.hits c.as_slice.ensures
-    (all_within q members (truth.nearest c.args.search.now.count q None members) c.in_ok-hits.hits are)
+    (all_within q members (truth.nearest c.args.search.now.count q c.args.search.now.filter members) c.in_ok-hits.hits are)
 
 pub returns-clause-found : goal.returns-clause-found
 returns-clause-found c =
@@ -26,11 +23,11 @@ returns-clause-found c =
     let attrs = c.args.search.now.attrs in
     let count = c.args.search.now.count in
     let members = c.args.self.now.1.members in
-    let are = c.in_ok-hits.ensures None (search rules) in
-    let named : hits_of c.in_ok-named.field-0 ≡ map (truth.hit_of q attrs) (truth.nearest count q None members)
-    = c.in_ok-named.ensures ∙ ap (map (hit_at attrs members)) c.as_slice.ensures ∙ named_is attrs q members (truth.nearest count q None members) c.in_ok-hits.hits are.places are.dists in
+    let are = c.in_ok-hits.ensures in
+    let named : hits_of c.in_ok-named.field-0 ≡ map (truth.hit_of q attrs) (truth.nearest count q c.args.search.now.filter members)
+    = c.in_ok-named.ensures ∙ ap (map (hit_at attrs members)) c.as_slice.ensures ∙ named_is attrs q members (truth.nearest count q c.args.search.now.filter members) c.in_ok-hits.hits are.places are.dists in
     (λ t. request.Hits (c.dim-dim.ensures.value t) c.args.search.now.scores attrs (named t))
-    ∙ ap (λ v. request.Hits c.args.self.now.1.dim c.args.search.now.scores attrs (map (truth.hit_of v attrs) (truth.nearest count v None members))) c.in_ok-query.ensures.found
+    ∙ ap (λ v. request.Hits c.args.self.now.1.dim c.args.search.now.scores attrs (map (truth.hit_of v attrs) (truth.nearest count v c.args.search.now.filter members))) c.in_ok-query.ensures.found
 
 pub returns-clause-scores : goal.returns-clause-scores
 returns-clause-scores c =
@@ -38,10 +35,10 @@ returns-clause-scores c =
     let attrs = c.args.search.now.attrs in
     let count = c.args.search.now.count in
     let members = c.args.self.now.1.members in
-    let are = c.in_ok-hits.ensures None (search rules) in
-    let named : hits_of c.in_ok-named.field-0 ≡ map (truth.hit_of q attrs) (truth.nearest count q None members)
-    = c.in_ok-named.ensures ∙ ap (map (hit_at attrs members)) c.as_slice.ensures ∙ named_is attrs q members (truth.nearest count q None members) c.in_ok-hits.hits are.places are.dists in (
+    let are = c.in_ok-hits.ensures in
+    let named : hits_of c.in_ok-named.field-0 ≡ map (truth.hit_of q attrs) (truth.nearest count q c.args.search.now.filter members)
+    = c.in_ok-named.ensures ∙ ap (map (hit_at attrs members)) c.as_slice.ensures ∙ named_is attrs q members (truth.nearest count q c.args.search.now.filter members) c.in_ok-hits.hits are.places are.dists in (
       (c.dim-dim.ensures.some, c.dim-dim.ensures.few),
       All-weaker (λ (h : NamedHit). h.dist ≤ length q) (λ (h : NamedHit). h.dist ≤ c.dim-dim.result) (λ h le. omega (arith, le, c.in_ok-query.ensures.dim, c.dim-dim.ensures.value)) c.in_ok-named.field-0
-          (all_few attrs q (truth.nearest count q None members) c.in_ok-named.field-0 named),
+          (all_few attrs q (truth.nearest count q c.args.search.now.filter members) c.in_ok-named.field-0 named),
     )

@@ -1,4 +1,4 @@
 use Rattle.vs_plain_set.proofs.set.Set.search.Given as goal
 
-abbrev pub ghosts-hits : goal.ghosts-hits
-ghosts-hits a = record { name = a.blank.name; parts = a.blank.parts }
+abbrev pub ghosts-passing : goal.ghosts-passing
+ghosts-passing a = record { name = a.blank.name; parts = a.blank.parts }
