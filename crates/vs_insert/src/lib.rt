@@ -4,9 +4,12 @@
 mod choosing;
 mod committing;
 mod draft;
+mod highest;
 mod joining;
 mod preparing;
+mod relinking;
 
 pub use committing::commit;
 pub use draft::{Chosen, Draft};
 pub use preparing::prepare;
+pub use relinking::relink;
