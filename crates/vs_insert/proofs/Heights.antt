@@ -64,9 +64,11 @@ module _ (at : ℕ → Option Node) (but id : ℕ) where
 
   -- a new best
   new_best : (node : Node) → at id ≡ Some node → id ≢ but → ((q : ℕ) → q < id → q ≢ but → IfSome (at q) (λ k. is_gt (height node k) ≡ false)) → IsHighestBelow at but (id + 1) (Some id)
-  new_best node is ne below =
-      (ne, subst (λ o. IsSomeAnd o (λ n. (q : ℕ) → q < id + 1 → q ≢ but → IfSome (at q) (λ k. is_gt (height n k) ≡ false))) (sym is)
-      (wider node (subst (λ o. IfSome o (λ k. is_gt (height node k) ≡ false)) (sym is) (not_above_itself node)) below))
+  new_best node is ne below = (
+    ne,
+    subst (λ o. IsSomeAnd o (λ n. (q : ℕ) → q < id + 1 → q ≢ but → IfSome (at q) (λ k. is_gt (height n k) ≡ false))) (sym is)
+        (wider node (subst (λ o. IfSome o (λ k. is_gt (height node k) ≡ false)) (sym is) (not_above_itself node)) below),
+  )
 
   pub first_best : (node : Node) → at id ≡ Some node → id ≢ but → IsHighestBelow at but id None → IsHighestBelow at but (id + 1) (Some id)
   first_best node is ne h = new_best node is ne (λ q low other. subst (λ o. IfSome o (λ k. is_gt (height node k) ≡ false)) (sym (h q low other)) tt)

@@ -1,4 +1,5 @@
-//! How a member is added: drafts, which choose whom it is linked to in a graph as it was, and commits, which link it without a search.
+//! How a member is added: drafts, which choose whom it is linked to in a graph as it was, and commits, which link it without a search. And
+//! how those are joined again that a removal left alone.
 #![tactic(auto)]
 
 mod choosing;

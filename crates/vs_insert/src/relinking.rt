@@ -81,7 +81,11 @@ fn choice_for<N: Nodes, F: Testing, L: Ledger>(
 {
     let nodes = graph.nodes();
     let start = start_of(edit, nodes, entry, orphan.id, reads);
-    let query = live_node(edit, nodes, orphan.id, reads).body.get().bits.as_slice();
+    let query = live_node(edit, nodes, orphan.id, reads)
+        .body
+        .get()
+        .bits
+        .as_slice();
     let search = beam(
         alloc,
         graph,
@@ -94,7 +98,14 @@ fn choice_for<N: Nodes, F: Testing, L: Ledger>(
         slot,
         reads,
     )?;
-    let left = others(alloc, edit, nodes, search.found.as_slice(), orphan.id, reads)?;
+    let left = others(
+        alloc,
+        edit,
+        nodes,
+        search.found.as_slice(),
+        orphan.id,
+        reads,
+    )?;
     let unchanged = Edit::new(alloc);
     select(alloc, &unchanged, nodes, left.as_slice(), graph.m(), reads)
 }
