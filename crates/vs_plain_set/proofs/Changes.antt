@@ -2,10 +2,9 @@
 --     seen_set, seen_removed            a member put at a place, and a removal
 --     kept_changed                      what holds of the members holds after a change of one that keeps its name
 --     attributed_is, replaced_is, removed_is        a member with another attribute, its replacement, its removal
-use Rattle.std.proofs.Common.{◌≡◌, ℕ, ◌+◌, ◌-◌, ◌<◌, Bool, true, false, cond, List, [], ◌∷◌, Option, Some, None, length, get_or, take, set, map, refl, sym, ap, ◌∙◌, arith}
+use Rattle.std.proofs.Common.{◌≡◌, ℕ, ◌-◌, ◌<◌, false, List, [], ◌∷◌, ◌++◌, Option, Some, length, get_or, take, set, map, refl, sym, ap, ◌∙◌, arith}
 use Rattle.std.specs.Prelude.{slice_get}
 use Rattle.std.specs.List.{swap_remove, take-map}
-use Rattle.std.proofs.Common.{◌++◌, ◌^◌}
 use Rattle.std.proofs.Math.ListN.{get_or-map as map_read}
 use Rattle.std.proofs.lemmas.List.{get_or-map, length-map, map-append, map-set}
 use Rattle.std.proofs.lemmas.Option.{get_or_from_slice_get}

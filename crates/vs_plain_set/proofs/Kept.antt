@@ -1,6 +1,6 @@
 -- What holds of the members of a set holds after each change.
 --     kept_pushed, kept_set, kept_removed      after a new member, another member of the name at its place, a removal
-use Rattle.std.proofs.Common.{◌≡◌, ◌≢◌, ℕ, zero, suc, ◌+◌, ◌-◌, ◌^◌, ◌<◌, ◌≤◌, ◌⊎◌, Bool, true, false, cond, List, [], ◌∷◌, ◌++◌, Option, Some, None, All, length, get_or, take, set, map, refl, sym, ap, ◌∙◌, arith, inl, inr, is_some}
+use Rattle.std.proofs.Common.{◌≡◌, ◌≢◌, ℕ, zero, suc, ◌-◌, ◌<◌, ◌⊎◌, false, List, [], ◌∷◌, ◌++◌, Some, length, get_or, set, refl, sym, ap, ◌∙◌, arith, inl, inr, is_some}
 use Rattle.std.specs.List.{swap_remove}
 use Rattle.std.proofs.lemmas.Bool.{cases_eq, cases_Bool, cond-true, cond-false, true≢false}
 use Rattle.std.proofs.lemmas.List.{get_or-take, get_or_default, get_or-set_other, length-take-le, length-set, length_push}
@@ -8,7 +8,7 @@ use Rattle.std.proofs.lemmas.List.Elements.{All-push, All-set, All-take}
 use Rattle.std.proofs.lemmas.List.Quantifiers.{all_pairs_push}
 use Rattle.std.proofs.lemmas.Grind.{get_or-set_at}
 use Rattle.vs_defs.specs.Bytes.{Bytes}
-use Rattle.vs_defs.specs.Store.{Member, is_of_name, is_member, member_of, HasNamesOnce}
+use Rattle.vs_defs.specs.Store.{Member, is_of_name, is_member, member_of}
 use Rattle.vs_plain_set.specs.Kept.{IsKept}
 use Rattle.vs_plain_set.proofs.Places.{apart, is_same}
 

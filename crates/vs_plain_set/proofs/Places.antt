@@ -7,12 +7,11 @@
 --     a_place, no_place      what the place of a name tells
 --     find-map, name_there   the member of a name among those that are seen; the name at a place
 --     found_has              what holds of each member holds of the one that is found
-use Rattle.std.proofs.Common.{◌≡◌, ◌≢◌, ℕ, zero, suc, ◌+◌, ◌-◌, ◌<◌, ◌≤◌, Bool, true, false, cond, List, [], ◌∷◌, Option, Some, None, length, get_or, take, set, map, refl, sym, ap, ◌∙◌, arith, inl, inr, IsSomeAnd, All, find, option_map, is_some, position, subst}
+use Rattle.std.proofs.Common.{◌≡◌, ℕ, zero, suc, ◌+◌, ◌-◌, ◌<◌, ◌≤◌, Bool, true, false, cond, List, [], ◌∷◌, Option, Some, None, length, get_or, take, set, map, refl, sym, ap, ◌∙◌, arith, inl, inr, IsSomeAnd, All, find, option_map, is_some, position, subst, ltb, not}
 use Rattle.std.specs.Prelude.{slice_get}
 use Rattle.std.specs.List.{swap_remove, position_or_len}
-use Rattle.std.proofs.Common.{ltb, not}
 use Rattle.std.proofs.Math.Seq.{take-set-lt}
-use Rattle.std.proofs.lemmas.Bool.{cond-true, cond-false, cases_order, cases_eq, cases_Bool, false_from_ne_true, ltb-false, ltb-true}
+use Rattle.std.proofs.lemmas.Bool.{cond-true, cond-false, cases_order, cases_eq, cases_Bool, false_from_ne_true, ltb-false}
 use Rattle.std.proofs.lemmas.List.{get_or-take, length-map, length-take-le, take-set-le}
 use Rattle.std.proofs.lemmas.Option.{none-some, same_Some, cond_some, slice_get_past, slice_get_within, get_or_from_slice_get, slice_get-get_or}
 use Rattle.std.proofs.lemmas.List.Folds.{find_at}

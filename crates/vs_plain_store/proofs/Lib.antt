@@ -1,5 +1,5 @@
-pub mod StoreCauses
-pub mod StoreCounts
-pub mod StoreEdits
-pub mod StoreMembers
-pub mod StorePlaces
+pub mod Causes
+pub mod Counts
+pub mod Edits
+pub mod Members
+pub mod Places

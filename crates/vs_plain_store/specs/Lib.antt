@@ -1,3 +1,3 @@
-pub mod StoreKept
-pub mod StoreMemory
-pub mod StoreSeen
+pub mod Kept
+pub mod Memory
+pub mod Seen

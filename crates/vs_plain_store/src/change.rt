@@ -12,7 +12,7 @@ ghost use Rattle.vs_command.specs.Outcomes.{outcome_of};
 ghost use Rattle.vs_command.specs.Refusals.{refusal_of};
 ghost use Rattle.vs_command.specs.Scores.{HasScores};
 ghost use Rattle.vs_plain_set.specs.Kept.{IsAt};
-ghost use Rattle.vs_plain_store.specs.StoreKept.{IsSetAt, IsRemoval, Fits, misfit};
+ghost use Rattle.vs_plain_store.specs.Kept.{IsSetAt, IsRemoval, Fits, misfit};
 
 use crate::Store;
 use vs_bits::Add;

@@ -5,6 +5,8 @@ mod change;
 mod limits;
 mod query;
 mod store;
+#[cfg(test)]
+mod tests;
 
 pub use limits::Limits;
 pub use store::Store;

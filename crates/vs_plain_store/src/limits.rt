@@ -1,7 +1,7 @@
 //! How much a store keeps.
 ghost use Rattle.std.specs.Prelude.{◌≡◌};
 ghost use Rattle.vs_defs.specs.Store.{usual_limits};
-ghost use Rattle.vs_plain_store.specs.StoreSeen.{limits_seen};
+ghost use Rattle.vs_plain_store.specs.Seen.{limits_seen};
 
 /// The most members of a set, keys, members in all, and accepted changes that a store takes.
 #[derive(Clone, Copy, Debug, PartialEq, Eq)]

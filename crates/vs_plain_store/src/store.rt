@@ -11,9 +11,9 @@ ghost use Rattle.vs_defs.specs.Bytes.{same_name};
 ghost use Rattle.vs_command.specs.Outcomes.{outcome_of};
 ghost use Rattle.vs_command.specs.Requests.{request_of};
 ghost use Rattle.vs_command.specs.Scores.{HasScores};
-ghost use Rattle.vs_plain_store.specs.StoreKept.{AreUsual, IsSetAt};
-ghost use Rattle.vs_plain_store.specs.StoreMemory.{takes_no_memory};
-ghost use Rattle.vs_plain_store.specs.StoreSeen.{limits_seen};
+ghost use Rattle.vs_plain_store.specs.Kept.{AreUsual, IsSetAt};
+ghost use Rattle.vs_plain_store.specs.Memory.{takes_no_memory};
+ghost use Rattle.vs_plain_store.specs.Seen.{limits_seen};
 
 use crate::Limits;
 use std::alloc::Global;
@@ -33,8 +33,8 @@ pub struct Store {
 
 impl Model for Store {
     ghost use Rattle.vs_defs.specs.Store.{PlainStore};
-    ghost use Rattle.vs_plain_store.specs.StoreKept.{IsKept};
-    ghost use Rattle.vs_plain_store.specs.StoreSeen.{limits_seen};
+    ghost use Rattle.vs_plain_store.specs.Kept.{IsKept};
+    ghost use Rattle.vs_plain_store.specs.Seen.{limits_seen};
 
     ghost Value = { PlainStore };
 

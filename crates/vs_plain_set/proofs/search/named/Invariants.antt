@@ -1,4 +1,4 @@
-use Rattle.std.proofs.Common.{◌≡◌, ◌<◌, ◌≤◌, All, length, map, take, vec_capacity}
+use Rattle.std.proofs.Common.{◌≡◌, ◌≤◌, length, map, take, vec_capacity}
 use Rattle.vs_command.specs.Answers.{hits_of}
 use Rattle.vs_plain_set.specs.Found.{hit_at}
 use Rattle.vs_plain_set.proofs.search.named.Given as goal

@@ -4,9 +4,9 @@ use Rattle.vs_defs.specs.Bytes.{Bytes}
 use Rattle.vs_defs.specs.PlainStep.{removed}
 use Rattle.vs_defs.specs.Store.{Contents}
 use Rattle.vs_plain_set.specs.Kept.{IsAt}
-use Rattle.vs_plain_store.specs.StoreKept.{IsRemoval}
-use Rattle.vs_plain_store.proofs.StoreEdits.{read-at}
-use Rattle.vs_plain_store.proofs.StoreMembers.{removal-other, removal-last}
+use Rattle.vs_plain_store.specs.Kept.{IsRemoval}
+use Rattle.vs_plain_store.proofs.Edits.{read-at}
+use Rattle.vs_plain_store.proofs.Members.{removal-other, removal-last}
 use Rattle.vs_plain_store.proofs.change.remove_member.Goals as goal
 
 pub returns-then-not-remove : goal.returns-then-not-remove

@@ -1,4 +1,4 @@
-use Rattle.std.proofs.Common.{◌≡◌, ◌<◌, ◌++◌, ◌∷◌, [], false, length, map, refl, ap, sym, ◌∙◌, arith}
+use Rattle.std.proofs.Common.{◌++◌, ◌∷◌, [], length, ap, sym, ◌∙◌, arith}
 use Rattle.vs_defs.specs.Store.{is_member}
 use Rattle.vs_plain_set.specs.declared.member.Member.{Member}
 use Rattle.vs_plain_set.specs.Kept.{IsKept}

@@ -1,4 +1,4 @@
-use Rattle.std.proofs.Common.{◌≡◌, ◌<◌, ◌∷◌, [], List, Option, length, map, slice_get, Some, refl, ap, sym, ◌∙◌, arith}
+use Rattle.std.proofs.Common.{◌≡◌, ◌<◌, ◌∷◌, [], List, Option, length, slice_get, Some, refl, ap, sym, ◌∙◌, arith}
 use Rattle.std.proofs.lemmas.List.{length-map}
 use Rattle.std.proofs.lemmas.Option.{slice_get_within}
 use Rattle.vs_bits.specs.Requests.{add_of}
@@ -6,7 +6,6 @@ use Rattle.vs_defs.specs.PlainStep.{added_member, added_to, attr_after}
 use Rattle.vs_defs.specs.Store as model
 use Rattle.vs_defs.specs.Store.{Contents, member_of}
 use Rattle.vs_plain_set.specs.declared.member.Member.{Member}
-use Rattle.vs_plain_set.specs.Kept.{IsAt}
 use Rattle.vs_plain_set.specs.Seen.{member_seen}
 use Rattle.vs_plain_set.proofs.Places.{at_place, found_at, is_same, others}
 use Rattle.vs_plain_set.proofs.Changes.{seen, read_at, kept_changed, replaced_is}

@@ -1,4 +1,4 @@
-use Rattle.std.proofs.Common.{rules, true, ◌≡◌, ◌<◌, ◌≤◌, None, All, length, map, ap, sym, ◌∙◌, arith}
+use Rattle.std.proofs.Common.{rules, true, ◌≡◌, ◌<◌, ◌≤◌, None, length, map, ap, ◌∙◌, arith}
 use Rattle.std.proofs.lemmas.List.Elements.{All-same, All-weaker}
 use Rattle.vs_command.specs.declared.answer.NamedHit.{NamedHit}
 use Rattle.vs_command.specs.Answers.{hits_of}

@@ -1,6 +1,5 @@
-use Rattle.std.proofs.Common.{◌≡◌, ◌<◌, List, length, map, slice_get, Some, refl, ap, sym, ◌∙◌, arith}
+use Rattle.std.proofs.Common.{◌≡◌, ◌<◌, List, length, slice_get, Some, refl, ap, ◌∙◌, arith}
 use Rattle.std.proofs.lemmas.List.{length-map}
-use Rattle.vs_defs.specs.Bytes.{Bytes}
 use Rattle.vs_defs.specs.PlainStep.{attributed, with_attr}
 use Rattle.vs_defs.specs.Store.{Contents, Member}
 use Rattle.vs_plain_set.specs.Seen.{member_seen}

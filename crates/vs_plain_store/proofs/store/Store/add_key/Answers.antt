@@ -10,10 +10,10 @@ use Rattle.vs_defs.specs.Refuse.{store_refusal}
 use Rattle.vs_defs.specs.Request as request
 use Rattle.vs_defs.specs.Store.{Contents, PlainStore, AnswerAlike, HasKeysOnce, with_set, member_count, member_of, set_of}
 use Rattle.vs_bits.specs.Requests.{add_of}
-use Rattle.vs_plain_store.specs.StoreSeen.{limits_seen}
-use Rattle.vs_plain_store.proofs.StoreCauses.{absent-refusal, room-for-key, room-for-all, limit-free}
-use Rattle.vs_plain_store.proofs.StoreCounts.{size_of}
-use Rattle.vs_plain_store.proofs.StoreEdits.{alike-push, keys-push}
+use Rattle.vs_plain_store.specs.Seen.{limits_seen}
+use Rattle.vs_plain_store.proofs.Causes.{absent-refusal, room-for-key, room-for-all, limit-free}
+use Rattle.vs_plain_store.proofs.Counts.{size_of}
+use Rattle.vs_plain_store.proofs.Edits.{alike-push, keys-push}
 use Rattle.vs_plain_store.proofs.store.Store.add_key.Goals as goal
 
 pub invariant_of-self-2 : goal.invariant_of-self-2

@@ -10,10 +10,10 @@ use Rattle.vs_defs.specs.PlainMachine.{PlainChanges}
 use Rattle.vs_defs.specs.Refuse.{is_change, has_key}
 use Rattle.vs_defs.specs.Request as request
 use Rattle.vs_defs.specs.Store.{Contents, PlainStore, HasKeysOnce, lookup_set, without_keys}
-use Rattle.vs_plain_store.specs.StoreSeen.{limits_seen}
-use Rattle.vs_plain_store.proofs.StoreCauses.{change-limited, limit-free}
-use Rattle.vs_plain_store.proofs.StoreCounts.{size_of}
-use Rattle.vs_plain_store.proofs.StoreMembers.{few-without, sum-least, keys-without}
+use Rattle.vs_plain_store.specs.Seen.{limits_seen}
+use Rattle.vs_plain_store.proofs.Causes.{change-limited, limit-free}
+use Rattle.vs_plain_store.proofs.Counts.{size_of}
+use Rattle.vs_plain_store.proofs.Members.{few-without, sum-least, keys-without}
 use Rattle.vs_plain_store.proofs.store.Store.delete.Goals as goal
 
 pub member_count-self-inside-requires : goal.member_count-self-inside-requires

@@ -2,7 +2,7 @@ use Rattle.std.proofs.Common.{◌≡◌, ap, sym, ◌∙◌, position}
 use Rattle.std.specs.Prelude.{List}
 use Rattle.vs_defs.specs.Bytes.{Bytes}
 use Rattle.vs_defs.specs.Store.{Contents, PlainStore, set_of}
-use Rattle.vs_plain_store.proofs.StorePlaces.{no_set, a_set_or_none, is_key}
+use Rattle.vs_plain_store.proofs.Places.{no_set, a_set_or_none, is_key}
 use Rattle.vs_plain_store.proofs.store.Store.place_of.Goals as goal
 
 pub returns-clause-absent : goal.returns-clause-absent

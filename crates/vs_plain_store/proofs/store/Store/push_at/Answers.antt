@@ -12,11 +12,11 @@ use Rattle.vs_defs.specs.Request as request
 use Rattle.vs_defs.specs.Store.{Contents, PlainStore, member_count, is_member, set_of}
 use Rattle.vs_bits.specs.Requests.{add_of}
 use Rattle.vs_command.specs.Outcomes.{outcome_of}
-use Rattle.vs_plain_store.specs.StoreKept.{IsSetAt}
-use Rattle.vs_plain_store.specs.StoreSeen.{limits_seen}
-use Rattle.vs_plain_store.proofs.StoreCauses.{present-refusal, full-set, room-for-member, full-all, room-for-all, limit-free, limited, limit-refuses, seen-alone, at-seen, added-new}
-use Rattle.vs_plain_store.proofs.StoreEdits.{at-place, alike-written, keys-written, read-at}
-use Rattle.vs_plain_store.proofs.StoreCounts.{counted-written}
+use Rattle.vs_plain_store.specs.Kept.{IsSetAt}
+use Rattle.vs_plain_store.specs.Seen.{limits_seen}
+use Rattle.vs_plain_store.proofs.Causes.{present-refusal, full-set, room-for-member, full-all, room-for-all, limit-free, limited, limit-refuses, seen-alone, at-seen, added-new}
+use Rattle.vs_plain_store.proofs.Edits.{at-place, alike-written, keys-written, read-at}
+use Rattle.vs_plain_store.proofs.Counts.{counted-written}
 use Rattle.vs_plain_store.proofs.store.Store.push_at.Goals as goal
 
 pub returns-then-count-self-clause-does : goal.returns-then-count-self-clause-does

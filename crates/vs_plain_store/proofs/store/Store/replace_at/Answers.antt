@@ -10,10 +10,10 @@ use Rattle.vs_defs.specs.Refuse.{store_refusal}
 use Rattle.vs_defs.specs.Request as request
 use Rattle.vs_defs.specs.Store.{Contents, PlainStore, member_count, member_of, set_of}
 use Rattle.vs_bits.specs.Requests.{add_of}
-use Rattle.vs_plain_store.specs.StoreSeen.{limits_seen}
-use Rattle.vs_plain_store.proofs.StoreCauses.{present-refusal, of-member, limit-free, at-seen}
-use Rattle.vs_plain_store.proofs.StoreCounts.{counted-kept, long-replaced}
-use Rattle.vs_plain_store.proofs.StoreEdits.{at-place, alike-written, keys-written, read-at}
+use Rattle.vs_plain_store.specs.Seen.{limits_seen}
+use Rattle.vs_plain_store.proofs.Causes.{present-refusal, of-member, limit-free, at-seen}
+use Rattle.vs_plain_store.proofs.Counts.{counted-kept, long-replaced}
+use Rattle.vs_plain_store.proofs.Edits.{at-place, alike-written, keys-written, read-at}
 use Rattle.vs_plain_store.proofs.store.Store.replace_at.Goals as goal
 
 pub invariant_of-self : goal.invariant_of-self

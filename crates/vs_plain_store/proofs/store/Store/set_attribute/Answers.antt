@@ -9,10 +9,10 @@ use Rattle.vs_defs.specs.Refuse.{is_change, in_set, has_member}
 use Rattle.vs_defs.specs.Request as request
 use Rattle.vs_defs.specs.Store.{Member, Contents, PlainStore, is_of_name, AnswerAlike, with_option, set_of}
 use Rattle.vs_plain_set.specs.Kept.{IsAt}
-use Rattle.vs_plain_store.specs.StoreSeen.{limits_seen}
-use Rattle.vs_plain_store.proofs.StoreCauses.{change-limited, limit-free, at-seen}
-use Rattle.vs_plain_store.proofs.StoreCounts.{counted-kept, long-map}
-use Rattle.vs_plain_store.proofs.StoreEdits.{at-place, alike-written, keys-written, read-at}
+use Rattle.vs_plain_store.specs.Seen.{limits_seen}
+use Rattle.vs_plain_store.proofs.Causes.{change-limited, limit-free, at-seen}
+use Rattle.vs_plain_store.proofs.Counts.{counted-kept, long-map}
+use Rattle.vs_plain_store.proofs.Edits.{at-place, alike-written, keys-written, read-at}
 use Rattle.vs_plain_store.proofs.store.Store.set_attribute.Goals as goal
 
 pub invariant_of-self : goal.invariant_of-self

@@ -11,9 +11,9 @@ use Rattle.std.proofs.lemmas.Option.{get_or_from_slice_get, slice_get_within, no
 use Rattle.vs_defs.specs.Bytes.{Bytes, same_name, last_in}
 use Rattle.vs_defs.specs.PlainStep.{removed, unless_empty}
 use Rattle.vs_defs.specs.Store.{Member, Contents, HasKeysOnce, AnswerAlike, with_option, with_set, without_keys, without_member, put_last_at, all_but_last, is_of_name}
-use Rattle.vs_plain_store.specs.StoreKept.{IsRemoval}
-use Rattle.vs_plain_store.proofs.StoreCounts.{size_of, long-map}
-use Rattle.vs_plain_store.proofs.StoreEdits.{at-place, alike-written, keys-written, same-self, sum-without}
+use Rattle.vs_plain_store.specs.Kept.{IsRemoval}
+use Rattle.vs_plain_store.proofs.Counts.{size_of, long-map}
+use Rattle.vs_plain_store.proofs.Edits.{at-place, alike-written, keys-written, same-self, sum-without}
 
 -- ---- how many members are left
 

@@ -8,8 +8,8 @@ use Rattle.std.proofs.lemmas.List.Sums.{fails_before_first}
 use Rattle.std.proofs.lemmas.Option.{none-some, slice_get-get_or}
 use Rattle.vs_defs.specs.Bytes.{Bytes, same_name}
 use Rattle.vs_defs.specs.Store.{Contents, PlainStore, set_of}
-use Rattle.vs_plain_store.specs.StoreKept.{IsSetAt}
-use Rattle.vs_plain_store.proofs.StoreEdits.{lookup-absent, lookup-first, same-is}
+use Rattle.vs_plain_store.specs.Kept.{IsSetAt}
+use Rattle.vs_plain_store.proofs.Edits.{lookup-absent, lookup-first, same-is}
 
 abbrev pub is_key : Bytes → Bytes × Contents → Bool
 is_key key e = same_name key e.0

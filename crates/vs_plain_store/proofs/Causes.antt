@@ -16,7 +16,7 @@ use Rattle.vs_command.specs.declared.answer.Answer.{Answer}
 use Rattle.vs_command.specs.Refusals.{refusal_of}
 use Rattle.vs_command.specs.declared.refusal.Refusal.{Refusal as Cause}
 use Rattle.vs_command.specs.declared.refusal.Refusal.TheVariants.{ChangeLimit}
-use Rattle.vs_plain_store.specs.StoreKept.{IsSetAt, misfit}
+use Rattle.vs_plain_store.specs.Kept.{IsSetAt, misfit}
 
 -- a cause is answered
 pub refuses : (s : PlainStore) (r : Request) (words : List ℕ) (o : Option Refusal) → IsSomeAnd o (λ cause. store_refusal s r ≡ Some cause) → PlainDoes s r words (refused_by o) s
