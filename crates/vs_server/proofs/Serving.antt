@@ -7,7 +7,7 @@ use Rattle.vs_defs.specs.Stream.{Message}
 use Rattle.vs_defs.specs.Bounds.{IsInBounds}
 use Rattle.vs_defs.specs.Reply.{Outcome}
 use Rattle.vs_defs.specs.Reply as outcome
-use Rattle.vs_defs.specs.Read as reading
+use Rattle.vs_defs.specs.Read.{read as read_words}
 use Rattle.vs_defs.specs.Stages.{is_plain, if_built}
 use Rattle.vs_defs.specs.Store.{PlainStore}
 use Rattle.vs_defs.specs.PlainMachine.{PlainHistory, PlainDoes}
@@ -31,7 +31,7 @@ is_built test (Ok q) r e = is_built_at test (test q) q r refl e
 is_built test (Err e) r is = absurd (cc)
 
 pub read_is_plain : (message : Message) (r : request.Request) → read message ≡ Ok r → is_plain r ≡ true
-read_is_plain message r e = is_built is_plain (reading.read message) r e
+read_is_plain message r e = is_built is_plain (read_words message) r e
 
 -- ---- what is drawn
 

@@ -5,6 +5,8 @@ mod end;
 mod handler;
 mod random_words;
 mod serve;
+#[cfg(test)]
+mod tests;
 mod write;
 
 pub use end::SessionEnd;

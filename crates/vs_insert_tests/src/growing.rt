@@ -1,0 +1,102 @@
+ghost use Rattle.std.specs.Prelude.{◌≡◌, ◌∷◌, ◌≤◌, ℕ, List as Items, [], IfOk, OnOk};
+ghost use Rattle.vs_defs.specs.Words.{FitsDimension};
+ghost use Rattle.vs_insert.specs.declared.draft.Chosen.{Chosen};
+ghost use Rattle.vs_insert.specs.Added.{AreDrafted};
+
+use std::alloc::Global;
+use std::sync::ledger::Ledger;
+use vs_graph::{Body, Graph, Nodes, Shared, Steps};
+use vs_graph_tests::is_new_name;
+use vs_insert::{Draft, commit, prepare};
+use vs_outside::{List, NoMemory, Text};
+use vs_slot::Slot;
+
+/// A name, and a vector of 64 bits.
+pub fn body_of(alloc: Global, name: &[u8], word: u64) -> Result<Shared<Body>, NoMemory>
+    ensures { IfOk result (λ body. body.bits ≡ word ∷ []) }
+{
+    let body = Body {
+        name: Text::from_slice(alloc, name)?,
+        bits: List::from_slice(alloc, &[word])?,
+    };
+    Shared::new(alloc, body)
+}
+
+/// A draft by beams of width 8.
+pub fn draft_of<N: Nodes, L: Ledger>(
+    alloc: Global,
+    graph: &Graph<N>,
+    name: &[u8],
+    word: u64,
+    level: u8,
+    slot: &mut Slot,
+    reads: &mut Steps<L>,
+) -> Result<Draft, NoMemory>
+    requires dim { graph.now.dim ≡ 64 }
+    requires low { level ≤ 15 }
+    ensures fits { IfOk result (λ draft. FitsDimension 64 draft.body.bits) }
+    ensures level { IfOk result (λ draft. draft.level ≡ level) }
+    ensures drafted { IfOk result (λ draft. AreDrafted (N.at graph.now.nodes) graph.now.m draft.level draft.chosen) }
+{
+    let body = body_of(alloc, name, word)?;
+    prepare(alloc, graph, 0, body, level, 8, slot, reads)
+}
+
+/// Commits a draft at a new id. False where there is no id left, or where its name is taken.
+pub fn settle<N: Nodes, L: Ledger>(
+    alloc: Global,
+    graph: &mut Graph<N>,
+    draft: Draft,
+    reads: &mut Steps<L>,
+) -> Result<bool, NoMemory>
+    requires dim { graph.old.dim ≡ 64 }
+    requires low { draft.level ≤ 15 }
+    requires fits { FitsDimension 64 draft.body.bits }
+    requires drafted { AreDrafted (N.at graph.old.nodes) graph.old.m draft.level draft.chosen }
+    ensures dim { graph.new.dim ≡ 64 }
+    ensures kept { OnOk result ((level : ℕ) (chosen : Items (Items Chosen)) → AreDrafted (N.at graph.old.nodes) graph.old.m level chosen → AreDrafted (N.at graph.new.nodes) graph.new.m level chosen) }
+{
+    let id = graph.nodes().limit();
+    if id >= 1048576 || !is_new_name(graph.nodes(), draft.body.get().name.as_slice(), reads) {
+        return Ok(false);
+    }
+    commit(alloc, graph, draft, id, None, reads)?;
+    Ok(true)
+}
+
+/// Adds a member by a draft of this graph.
+pub fn add<N: Nodes, L: Ledger>(
+    alloc: Global,
+    graph: &mut Graph<N>,
+    name: &[u8],
+    word: u64,
+    level: u8,
+    slot: &mut Slot,
+    reads: &mut Steps<L>,
+) -> Result<bool, NoMemory>
+    requires dim { graph.old.dim ≡ 64 }
+    requires low { level ≤ 15 }
+    ensures dim { graph.new.dim ≡ 64 }
+    ensures kept { OnOk result ((level : ℕ) (chosen : Items (Items Chosen)) → AreDrafted (N.at graph.old.nodes) graph.old.m level chosen → AreDrafted (N.at graph.new.nodes) graph.new.m level chosen) }
+{
+    let draft = draft_of(alloc, graph, name, word, level, slot, reads)?;
+    settle(alloc, graph, draft, reads)
+}
+
+/// Adds eight leaves of level 0, each with one bit of its own.
+pub fn add_leaves<N: Nodes, L: Ledger>(
+    alloc: Global,
+    graph: &mut Graph<N>,
+    slot: &mut Slot,
+    reads: &mut Steps<L>,
+) -> Result<(), NoMemory>
+    requires { graph.old.dim ≡ 64 }
+    ensures dim { graph.new.dim ≡ 64 }
+    ensures kept { OnOk result ((level : ℕ) (chosen : Items (Items Chosen)) → AreDrafted (N.at graph.old.nodes) graph.old.m level chosen → AreDrafted (N.at graph.new.nodes) graph.new.m level chosen) }
+{
+    for leaf in 0u8..8 {
+        let name = [b'a' + leaf];
+        add(alloc, graph, &name, 1 << leaf, 0, slot, reads)?;
+    }
+    Ok(())
+}

@@ -1,0 +1,8 @@
+//! Tests of drafts and commits: small graphs of members with one word each, grown by drafts.
+#![tactic(auto)]
+
+mod growing;
+#[cfg(test)]
+mod tests;
+
+pub use growing::{add, add_leaves, body_of, draft_of, settle};

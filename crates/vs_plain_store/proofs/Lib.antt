@@ -1,0 +1,5 @@
+pub mod Causes
+pub mod Counts
+pub mod Edits
+pub mod Members
+pub mod Places

@@ -1,0 +1,11 @@
+//! Whole connections of the server, byte for byte: what they write, and how they end.
+#![tactic(auto)]
+
+#[cfg(test)]
+mod pipeline;
+#[cfg(test)]
+mod requests;
+#[cfg(test)]
+mod served;
+#[cfg(test)]
+mod tests;
