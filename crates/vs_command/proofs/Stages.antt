@@ -1,8 +1,8 @@
 -- What is read of a known command's words, in this stage.
-use Rattle.std.proofs.Common.{◌≡◌, List, Option, Some, None, Ok, Err, Bool, true, false, length, drop, ◌+◌, refl, ap, ◌∙◌}
+use Rattle.std.proofs.Common.{◌≡◌, List, Some, Ok, Err, Bool, true, false, length, drop, ◌+◌, refl, ap, ◌∙◌}
 use Rattle.vs_defs.specs.Bytes.{Bytes}
 use Rattle.vs_defs.specs.Request as model
-use Rattle.vs_defs.specs.Read.{Reads, Command, named, commands, word, fits_arity, read_command, read, read_known, read_known_by, find_sim_option, read_key, read_add_form, read_vector, read_name, read_options, find_add_option, no_add_options, read_vadd}
+use Rattle.vs_defs.specs.Read.{Command, named, commands, word, fits_arity, read_command, read, read_known, read_known_by, find_sim_option, read_key, read_add_form, read_vector, read_name, read_options, find_add_option, no_add_options, read_vadd}
 use Rattle.vs_defs.specs.Stages.{if_built, is_plain, plain_read}
 
 fitting : (words : List Bytes) (c : Command) → fits_arity c (length words) ≡ true → read_known (Some c) words ≡ read_command find_sim_option c words

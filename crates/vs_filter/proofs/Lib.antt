@@ -6,3 +6,5 @@ pub mod Built
 pub mod Steps
 pub mod Texts
 pub mod Meaning
+pub mod ReadIsDerived
+pub mod DerivedIsRead

@@ -5,3 +5,4 @@ pub mod Code
 pub mod Parsed
 pub mod Values
 pub mod Evaluated
+pub mod Grammar

@@ -8,6 +8,7 @@ mod evaluate;
 mod filter;
 mod front;
 mod items;
+mod law;
 mod literal;
 mod number;
 mod operator;
@@ -19,6 +20,7 @@ mod value;
 
 pub use error::FilterError;
 pub use filter::Filter;
+pub use law::filter_is_what_is_derived;
 
 #[cfg(test)]
 mod tests;

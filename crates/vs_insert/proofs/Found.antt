@@ -47,8 +47,8 @@ module _ (at : ℕ → Option Node) (layer start ef : ℕ) (query tried expanded
   pub found_is : found ≡ take ef (ranked at query tried)
   found_is = beam.best ∙ ap (take ef) (all_pass (ranked at query tried))
 
-  same_ids : IsPermutation tried (map (λ (key : Key). key.id) (ranked at query tried))
-  same_ids = subst (λ l. IsPermutation l (map (λ (key : Key). key.id) (ranked at query tried))) (ids_keys at query tried) (IsPermutation-map (λ (key : Key). key.id) (map (key_at at query) tried) (ranked at query tried) (same_sorted (map (key_at at query) tried)))
+  pub ranked_ids : IsPermutation tried (map (λ (key : Key). key.id) (ranked at query tried))
+  ranked_ids = subst (λ l. IsPermutation l (map (λ (key : Key). key.id) (ranked at query tried))) (ids_keys at query tried) (IsPermutation-map (λ (key : Key). key.id) (map (key_at at query) tried) (ranked at query tried) (same_sorted (map (key_at at query) tried)))
 
   -- what holds of those that were tried holds of those that were found
   pub found_all : (P : ℕ → Type 0) → All P tried → All (λ (key : Key). P key.id) found
@@ -67,14 +67,14 @@ module _ (at : ℕ → Option Node) (layer start ef : ℕ) (query tried expanded
   found_once =
       subst (λ l. IsDistinct nat_eq (map (λ (key : Key). key.id) l)) (sym found_is)
       (subst (IsDistinct nat_eq) (sym (take_map_ids ef (ranked at query tried)))
-      (distinct_take ef (map (λ (key : Key). key.id) (ranked at query tried)) (IsDistinct-IsPermutation nat_eq flips tried (map (λ (key : Key). key.id) (ranked at query tried)) same_ids (IsDistinct-from_AllPairs Decides-eqb tried beam.once))))
+      (distinct_take ef (map (λ (key : Key). key.id) (ranked at query tried)) (IsDistinct-IsPermutation nat_eq flips tried (map (λ (key : Key). key.id) (ranked at query tried)) ranked_ids (IsDistinct-from_AllPairs Decides-eqb tried beam.once))))
 
-  long : length (ranked at query tried) ≡ length tried
-  long = sym (length-map (ranked at query tried) (λ (key : Key). key.id)) ∙ length_permutation _ _ same_ids
+  pub ranked_long : length (ranked at query tried) ≡ length tried
+  ranked_long = sym (length-map (ranked at query tried) (λ (key : Key). key.id)) ∙ length_permutation _ _ ranked_ids
 
   tried_some : (xs : List ℕ) → slice_get xs 0 ≡ Some start → 0 < length xs
   tried_some [] h = cc
   tried_some (x ∷ xs) h = omega arith
 
   pub found_some : 0 < ef → 0 < length found
-  found_some wide = subst (λ l. 0 < length l) (sym found_is) (omega (arith, length-take ef (ranked at query tried), long, tried_some tried beam.start_first, wide))
+  found_some wide = subst (λ l. 0 < length l) (sym found_is) (omega (arith, length-take ef (ranked at query tried), ranked_long, tried_some tried beam.start_first, wide))

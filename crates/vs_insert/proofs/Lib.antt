@@ -7,3 +7,5 @@ pub mod Adding
 pub mod Named
 pub mod Found
 pub mod Choices
+pub mod Heights
+pub mod Orphans

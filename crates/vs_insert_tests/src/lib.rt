@@ -2,7 +2,9 @@
 #![tactic(auto)]
 
 mod growing;
+mod removing;
 #[cfg(test)]
 mod tests;
 
 pub use growing::{add, add_leaves, body_of, draft_of, settle};
+pub use removing::removal;

@@ -1,10 +1,10 @@
-ghost use Rattle.std.specs.Prelude.{◌≡◌, ◌<◌};
+ghost use Rattle.std.specs.Prelude.{◌≡◌, ◌<◌, ◌≤◌};
 
 use super::*;
 use std::alloc::Global;
 use std::marker::Brand;
 use std::sync::ledger::{Blank, Ledger};
-use vs_graph::{FreshNodes, Graph, ListNodes, Nodes, Steps, links};
+use vs_graph::{Edit, FreshNodes, Graph, ListNodes, Nodes, Steps, links};
 use vs_graph_tests::Counted;
 use vs_outside::NoMemory;
 use vs_slot::Slot;
@@ -132,5 +132,68 @@ fn a_choice_that_lost_its_room(rt: HostRuntime) -> Result<(), NoMemory> {
     assert!(rt; leaf);
     assert!(rt; 9 < gets);
     assert!(rt; gets <= 69, "{gets}");
+    Ok(())
+}
+
+fn has_left<N: Nodes, L: Ledger>(
+    edit: &Edit,
+    base: &N,
+    id: u32,
+    ids: &[u32],
+    reads: &mut Steps<L>,
+) -> bool {
+    match edit.node(base, id, reads) {
+        Some(node) => links(node, 0) == ids,
+        None => false,
+    }
+}
+
+/// What is looked at where the hub of three leaves is taken out: the number of orphans, the one that is listed, and the links.
+fn star_by<L: Ledger>(
+    alloc: Global,
+    m: u16,
+    blank: Blank,
+) -> Result<Option<(usize, u32, bool)>, NoMemory>
+    requires low { 4 ≤ m }
+    requires high { m ≤ 256 }
+    requires name { blank.name ≡ L.name }
+    requires parts { blank.parts ≡ L.parts }
+    requires some { 0 < L.parts }
+{
+    let mut reads = Steps::<L>::new(blank);
+    let mut slot = Slot::new(alloc);
+    let mut graph = Graph::new(ListNodes::new(alloc)?, m, 64);
+    add(alloc, &mut graph, b"hub", 0, 0, &mut slot, &mut reads)?;
+    add(alloc, &mut graph, b"a", 1, 0, &mut slot, &mut reads)?;
+    add(alloc, &mut graph, b"b", 2, 0, &mut slot, &mut reads)?;
+    add(alloc, &mut graph, b"c", 4, 0, &mut slot, &mut reads)?;
+    let Some((edit, orphans)) = removal(alloc, &graph, 0, &mut reads)? else {
+        return Ok(None);
+    };
+    let Some(one) = orphans.get(0) else {
+        return Ok(None);
+    };
+    let nodes = graph.nodes();
+    let left = has_left(&edit, nodes, 1, &[2], &mut reads)
+        && has_left(&edit, nodes, 2, &[1], &mut reads)
+        && has_left(&edit, nodes, 3, &[], &mut reads);
+    Ok(Some((orphans.len(), one.id, left && one.layer == 0)))
+}
+
+fn star(alloc: Global, m: u16) -> Result<Option<(usize, u32, bool)>, NoMemory>
+    requires low { 4 ≤ m }
+    requires high { m ≤ 256 }
+{
+    star_by::<Brand>(alloc, m, Blank::new(1))
+}
+
+// Each leaf is one bit from the hub and two from the others, so it is linked to the hub alone. The first two names are paired,
+// and the third is left alone.
+#[test]
+fn the_hub_of_a_star_is_taken_out(rt: HostRuntime) -> Result<(), NoMemory> {
+    let four = star(rt.alloc(), 4)?;
+    assert!(rt; four == Some((1, 3, true)));
+    let sixteen = star(rt.alloc(), 16)?;
+    assert!(rt; sixteen == Some((1, 3, true)));
     Ok(())
 }
