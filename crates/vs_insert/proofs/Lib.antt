@@ -9,3 +9,5 @@ pub mod Found
 pub mod Choices
 pub mod Heights
 pub mod Orphans
+pub mod Leavings
+pub mod Rejoining

@@ -51,7 +51,7 @@ pub level_of_member : (dim : ℕ) (o : Option Node) → (option_map_or (member_o
 level_of_member dim None = refl
 level_of_member dim (Some n) = refl
 
-map_same_in : {X Y : Type 0} (f g : X → Y) (xs : List X) → ((x : X) → In x xs → f x ≡ g x) → map f xs ≡ map g xs
+pub map_same_in : {X Y : Type 0} (f g : X → Y) (xs : List X) → ((x : X) → In x xs → f x ≡ g x) → map f xs ≡ map g xs
 map_same_in f g [] h = refl
 map_same_in f g (x ∷ xs) h = ap (λ y. y ∷ map f xs) (h x (inl refl)) ∙ ap (λ l. g x ∷ l) (map_same_in f g xs (λ y k. h y (inr k)))
 

@@ -108,7 +108,7 @@ stands_bare : (layer : ℕ) (o : Option Node) → IsSomeAnd (bare o) (λ node. l
 stands_bare layer None h = h
 stands_bare layer (Some node) h = h
 
-some_node : (layer : ℕ) (o : Option Node) → IsSomeAnd o (λ n. layer ≤ n.level) → is_some o ≡ true
+pub some_node : (layer : ℕ) (o : Option Node) → IsSomeAnd o (λ n. layer ≤ n.level) → is_some o ≡ true
 some_node layer None h = absurd h
 some_node layer (Some n) h = refl
 
@@ -117,7 +117,7 @@ no_node layer None e h = h
 no_node layer (Some n) e h = both_ways (is_some (Some n)) (ap is_some e) refl
 
 module _ (at now : ℕ → Option Node) (x : ℕ) (gone : IsWithout at now x) where
-  not_x : (layer q : ℕ) → StandsAt now layer q → q ≢ x
+  pub not_x : (layer q : ℕ) → StandsAt now layer q → q ≢ x
   not_x layer q h is = no_node layer (now q) (ap now is ∙ gone.gone) h
 
   pub stood : (layer q : ℕ) → StandsAt now layer q → StandsAt at layer q
@@ -171,12 +171,12 @@ start_may now entry layer y start is top stands another =
 
 -- ---- what is left of what was found
 
-all_in : {X : Type 0} (P : X → Type 0) (xs : List X) → ((x : X) → In x xs → P x) → All P xs
+pub all_in : {X : Type 0} (P : X → Type 0) (xs : List X) → ((x : X) → In x xs → P x) → All P xs
 all_in P [] h k d less = absurd (omega (arith, less))
 all_in P (x ∷ xs) h zero d less = h x (inl refl)
 all_in P (x ∷ xs) h (suc k) d less = all_in P xs (λ y i. h y (inr i)) k d (omega (arith, less))
 
-in_all : {X : Type 0} (P : X → Type 0) (x : X) (xs : List X) → All P xs → In x xs → P x
+pub in_all : {X : Type 0} (P : X → Type 0) (x : X) (xs : List X) → All P xs → In x xs → P x
 in_all P x [] h i = absurd i
 in_all P x (y ∷ ys) h (inl e) = subst P (sym e) (h 0 y (omega arith))
 in_all P x (y ∷ ys) h (inr i) = in_all P x ys (λ k d less. h (suc k) d (omega (arith, less))) i
