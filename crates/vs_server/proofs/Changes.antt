@@ -1,5 +1,5 @@
 -- A change is answered by a number; so an answer with a long reply leaves the store as it was.
-use Rattle.std.proofs.Common.{◌≡◌, ℕ, ℤ, pos, inl, inr, List, Option, Some, None, Result, Ok, Err, refl, sym, ◌∙◌, length}
+use Rattle.std.proofs.Common.{◌≡◌, ℕ, ℤ, pos, inl, inr, List, Option, Some, None, Result, Ok, Err, refl, ◌∙◌}
 use Rattle.std.specs.Prelude.{count_by}
 use Rattle.vs_defs.specs.Bytes.{Bytes, listed}
 use Rattle.vs_defs.specs.Reply.{reply}

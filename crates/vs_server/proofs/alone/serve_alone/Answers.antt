@@ -1,8 +1,6 @@
-use Rattle.std.proofs.Common.{◌≡◌, ◌∙◌, ap, sym, refl, []}
+use Rattle.std.proofs.Common.{◌∙◌, ap, sym, refl}
 use Rattle.vs_defs.specs.Store.{empty_store}
-use Rattle.vs_defs.specs.PlainMachine.{PlainHistory}
 use Rattle.vs_session_defs.specs.Words.{generator}
-use Rattle.vs_session.specs.Stage.{store_at}
 use Rattle.vs_server.proofs.alone.serve_alone.Goals as goal
 
 pub returns-clause-session : goal.returns-clause-session

@@ -1,8 +1,5 @@
-use Rattle.std.proofs.Common.{◌≡◌, ◌∙◌, ap, subst, sym, List, ℕ, length}
-use Rattle.rand_pcg.specs.Lcg.{Lcg}
+use Rattle.std.proofs.Common.{◌∙◌, ap, List, ℕ, length}
 use Rattle.vs_defs.specs.Reply as outcome
-use Rattle.vs_defs.specs.Read.{draws as draws_of}
-use Rattle.vs_defs.specs.PlainMachine.{PlainDoes}
 use Rattle.vs_session_defs.specs.Words.{drawn, after_draws}
 use Rattle.vs_command.specs.Outcomes.{outcome_of}
 use Rattle.vs_command.specs.Requests.{request_of}

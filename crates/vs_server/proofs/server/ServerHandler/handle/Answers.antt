@@ -1,9 +1,6 @@
-use Rattle.std.proofs.Common.{◌≡◌, ◌∙◌, ap, subst, sym, List, ℕ, inl, inr, Option, Some, None, Ok, Result}
-use Rattle.rand_pcg.specs.Lcg.{Lcg}
+use Rattle.std.proofs.Common.{◌∙◌, ap, subst, sym, inl, inr}
 use Rattle.vs_defs.specs.Reply as outcome
 use Rattle.vs_defs.specs.Reply.{Outcome}
-use Rattle.vs_defs.specs.PlainMachine.{PlainHistory}
-use Rattle.vs_command.specs.Answers.{answer_of}
 use Rattle.vs_command.specs.Outcomes.{outcome_of}
 use Rattle.vs_session.specs.Served.{IsReplied}
 use Rattle.vs_server.specs.After.{After}
