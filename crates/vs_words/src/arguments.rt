@@ -1,12 +1,13 @@
 //! The texts of the options' values, by `clap`.
-ghost use Rattle.std.specs.Prelude.{◌≡◌, true, false, IfOk, map, option_map};
-ghost use Rattle.clap.specs.Words.{app_of, rule_of, subcommand_of, subcommand_rows_of};
+ghost use Rattle.std.specs.Prelude.{◌≡◌, true, false, IfOk, IfErr, map, option_map};
+ghost use Rattle.clap.specs.Words.{app_of, rule_of, subcommand_of, subcommand_rows_of, takes, kind_of};
 ghost use Rattle.clap.specs.declared.builder.command.Command.TheViews.{out-Command};
 ghost use Rattle.vs_defs.specs.ProgramWords.{value_in, seed as seed_choice, Job};
 ghost use Rattle.vs_defs.specs.ProgramWords.Job.{Script};
 ghost use Rattle.vs_words.specs.Words.{are_plain, job_named};
 ghost use Rattle.vs_words.specs.Arguments as spec;
 
+use clap::error::ErrorKind;
 use clap::{Arg, ArgAction, ArgMatches, Command, Error};
 use std::alloc::{AllocError, Global};
 
@@ -52,15 +53,17 @@ fn program<'a>(alloc: Global) -> Result<Command<'a>, AllocError>
 }
 
 fn matches<'a>(alloc: Global, words: &'a [&'a str]) -> Result<ArgMatches<'a>, Error>
-    ensures { IfOk result (λ m. subcommand_rows_of m ≡ subcommand_of spec.program (map (λ w. w.now) words.now)) }
+    ensures ok { IfOk result (λ m. subcommand_rows_of m ≡ subcommand_of spec.program (map (λ w. w.now) words.now)) }
+    ensures err { IfErr result (λ e. takes spec.program (map (λ w. w.now) words.now) ≡ true → kind_of e ≡ ErrorKind.OutOfMemory) }
 {
     program(alloc)?.try_get_matches_from(words)
 }
 
-/// The text of the seed in plain words, or its default; a refusal is want of memory.
+/// The text of the seed in plain words, or its default; only want of memory is refused.
 pub fn seed_text<'a>(alloc: Global, words: &'a [&'a str]) -> Result<&'a str, Error>
     requires { are_plain (map (λ w. w.now) words.now) ≡ true }
-    ensures { IfOk result (λ text. option_map Script (value_in seed_choice text.now) ≡ job_named (map (λ w. w.now) words.entry.now)) }
+    ensures text { IfOk result (λ text. option_map Script (value_in seed_choice text.now) ≡ job_named (map (λ w. w.now) words.entry.now)) }
+    ensures err { IfErr result (λ e. kind_of e ≡ ErrorKind.OutOfMemory) }
 {
     let found = matches(alloc, words)?;
     let Some((_, inner)) = found.subcommand() else {

@@ -1,0 +1,49 @@
+//! The jobs of one thread.
+ghost use Rattle.std.specs.Prelude.{◌≡◌, ◌<◌, ◌⊎◌};
+ghost use Rattle.vs_outside.specs.Known.{Adds};
+ghost use Rattle.vs_words.specs.Words.{job_named};
+ghost use Rattle.vs_program.specs.Jobs.{Does, Refuses, bad_words};
+
+use crate::status::{Status, status_at};
+use std::alloc::Global;
+use vs_outside::{Sink, Source, Text};
+use vs_server::serve_alone;
+use vs_session::write_all;
+use vs_words::{Job, WordsError, read_words};
+
+/// What is written where the words name no job.
+const BAD_WORDS: &[u8] = b"vectord: bad words\n";
+
+// Refuses the words.
+fn refuse<K: Sink>(sink: &mut K) -> Status
+    ensures status { result ≡ Status.BadWords }
+    ensures written { Refuses (K.written sink.old) (K.written sink.new) }
+    ensures whole { (K.faults sink.old < K.faults sink.new) ⊎ Adds (K.written sink.old) bad_words (K.written sink.new) }
+{
+    // Where the sink fails, the status is the same.
+    let _is_whole = write_all(sink, BAD_WORDS);
+    Status::BadWords
+}
+
+/// Does the job that the words name. Where they name none, `vectord: bad words` and a line feed are written, or what the sink takes of it.
+pub fn run_alone<S: Source, K: Sink>(
+    alloc: Global,
+    words: &[Text],
+    source: &mut S,
+    sink: &mut K,
+) -> Status
+    ensures job { Does (job_named words.now) result (S.left source.old) (S.left source.new) (K.written sink.old) (K.written sink.new) }
+    ensures bad_words { result ≡ Status.BadWords → (K.faults sink.old < K.faults sink.new) ⊎ Adds (K.written sink.old) bad_words (K.written sink.new) }
+    ensures read_fault { result ≡ Status.ReadFault → S.faults source.old < S.faults source.new }
+    ensures write_fault { result ≡ Status.WriteFault → K.faults sink.old < K.faults sink.new }
+{
+    match read_words(alloc, words) {
+        Ok(job) => match job {
+            Job::Script { seed } => status_at(serve_alone(alloc, seed, source, sink)),
+        },
+        Err(error) => match error {
+            WordsError::NoMemory => Status::NoMemory,
+            WordsError::BadWords => refuse(sink),
+        },
+    }
+}
