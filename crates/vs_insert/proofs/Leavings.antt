@@ -1,39 +1,22 @@
 -- The members that are left without one, by ids and by names.
-use Rattle.std.proofs.Common.{◌≡◌, ◌≢◌, ℕ, zero, suc, ◌+◌, ◌<◌, ◌≤◌, Bool, true, false, not, ◌&&◌, cond, eqb, List, [], ◌∷◌, length, map, get_or, take, refl, sym, ap, ◌∙◌, subst, arith, inl, inr, length-take, min}
-use Rattle.std.specs.Prelude.{Some, None, IsSome, is_some, IsSomeAnd, IfSome, nat_eq, filter, option_map, slice_get, All, Contains}
-use Rattle.std.specs.List.{list_any, IsDistinct}
+use Rattle.std.proofs.Common.{◌≡◌, ◌≢◌, ℕ, Bool, true, false, not, ◌&&◌, eqb, List, [], map, refl, sym, ap, ◌∙◌, inl, inr}
+use Rattle.std.specs.Prelude.{Some, None, is_some, option_map}
 use Rattle.std.specs.Option.{option_map_or}
 use Rattle.std.specs.declared.option.Option.{Option}
-use Rattle.std.proofs.lemmas.Bool.{cases_eq, cases_lt, both_ways, not_from_false, not-true, cond-true, cond-false, and_parts, and_from, eq-eqb, eqb-true, eqb-false, ne_eqb}
-use Rattle.std.proofs.lemmas.Option.{none-some, same_Some}
-use Rattle.std.proofs.lemmas.List.{length-map, take_all}
-use Rattle.std.proofs.lemmas.List.Elements.{All-filter}
-use Rattle.std.proofs.lemmas.Map.Keys.{IsDistinct-head, IsDistinct-tail, IsDistinct-cons}
+use Rattle.std.proofs.lemmas.Bool.{cases_eq, not-true, eq-eqb, eqb-false, ne_eqb}
 use Rattle.std.proofs.lemmas.Slice.Eq.{bytes_eq-Decides}
-use Rattle.vs_defs.specs.Bytes.{Bytes, same_name}
-use Rattle.vs_defs.specs.Vector.{ham}
-use Rattle.vs_defs.specs.Words.{FitsDimension, bits_of_words}
+use Rattle.vs_defs.specs.Bytes.{same_name}
 use Rattle.vs_defs.specs.Store.{Member, is_of_name}
-use Rattle.vs_defs.specs.Links.{bits_at}
-use Rattle.vs_defs.specs.Linking as linking
-use Rattle.vs_defs.specs.Insertion.{SameLinks, pass_all}
 use Rattle.vs_defs.specs.Removal as rules
 use Rattle.vs_graph.specs.declared.node.Node.{Node}
-use Rattle.vs_graph.specs.Good.{body_at, layers_at, links_at, StandsAt, IsGoodNode, AreLinksGood, IsEntry, IsGood}
-use Rattle.vs_graph.specs.Bodies.{words_at}
+use Rattle.vs_graph.specs.Good.{AreLinksGood}
 use Rattle.vs_graph.specs.Named.{is_live}
 use Rattle.vs_graph.specs.Table.{without}
-use Rattle.vs_graph.specs.Standing.{AreIds, member_at, members_of, name_of, named_links, set_of}
-use Rattle.vs_graph.proofs.Lists.{has_without, distinct_without, head_absent, not_true}
-use Rattle.vs_graph.proofs.Sorts.{In, filter_of_map, filter_same, test_from_in, in_from_test, from_filter}
-use Rattle.vs_graph.proofs.Standing.{member_name, names_differ, bits_there}
-use Rattle.vs_rank.specs.declared.Key.{Key}
-use Rattle.vs_beam.specs.Beam.{key_at, ranked, IsBeam}
-use Rattle.vs_beam.specs.Named.{keys_named}
-use Rattle.vs_beam.proofs.Sets.{beam_is_defined}
+use Rattle.vs_graph.specs.Standing.{AreIds, member_at, members_of, name_of}
+use Rattle.vs_graph.proofs.Lists.{has_without, distinct_without, not_true}
+use Rattle.vs_graph.proofs.Sorts.{In, filter_of_map, filter_same, test_from_in, from_filter}
+use Rattle.vs_graph.proofs.Standing.{member_name, names_differ}
 use Rattle.vs_unlink.specs.Unlinked.{bare}
-use Rattle.vs_insert.specs.Choosing.{everyone}
-use Rattle.vs_insert.specs.Height.{IsHighestBelow}
 use Rattle.vs_insert.specs.Rejoined.{IsWithout}
 use Rattle.vs_insert.proofs.Bare.{same_member_by}
 use Rattle.vs_insert.proofs.Named.{map_same_in}

@@ -1,22 +1,20 @@
 -- Whom an orphan may be joined to: what a beam in the graph before the removal found has others than the two.
-use Rattle.std.proofs.Common.{◌≡◌, ◌≢◌, ◌⊎◌, ℕ, zero, suc, ◌+◌, ◌<◌, ◌≤◌, Bool, true, false, not, ◌&&◌, ◌||◌, cond, eqb, List, [], ◌∷◌, length, map, get_or, take, min, refl, sym, ap, ◌∙◌, subst, arith, inl, inr, length-take}
-use Rattle.std.specs.Prelude.{Some, None, IsSome, is_some, IsSomeAnd, IfSome, MatchOption, nat_eq, nat_lt, filter, option_map, slice_get, All, Contains}
+use Rattle.std.proofs.Common.{◌≡◌, ◌≢◌, ◌⊎◌, ℕ, zero, suc, ◌+◌, ◌<◌, ◌≤◌, Bool, true, false, not, ◌&&◌, ◌||◌, cond, eqb, List, [], ◌∷◌, length, map, refl, sym, ap, ◌∙◌, subst, arith, inl, inr, length-take}
+use Rattle.std.specs.Prelude.{Some, None, IsSome, is_some, IsSomeAnd, IfSome, nat_eq, nat_lt, filter, All, Contains}
 use Rattle.std.specs.List.{list_any, IsDistinct}
-use Rattle.std.specs.List.Sorted.{IsPermutation}
-use Rattle.std.specs.Option.{option_map_or}
 use Rattle.std.specs.Ordering.{ordering_then, is_gt}
 use Rattle.std.specs.declared.cmp.Ordering.{Ordering}
 use Rattle.std.specs.declared.cmp.Ordering.TheVariants.{Less, Equal, Greater}
 use Rattle.std.specs.declared.option.Option.{Option}
-use Rattle.std.proofs.lemmas.Bool.{cases_eq, cases_lt, both_ways, not_from_false, not-true, cond-true, and_parts, and_from, lt-ltb, ne_eqb, eqb-false, eq-eqb}
-use Rattle.std.proofs.lemmas.List.{length-map, take_all}
-use Rattle.std.proofs.lemmas.List.Elements.{All-from_recursion, recursion_from_All, All-filter, All-map}
-use Rattle.std.proofs.lemmas.List.Sorted.{Contains-permutation, length_permutation}
+use Rattle.std.proofs.lemmas.Bool.{cases_eq, cases_lt, both_ways, not-true, cond-true, and_parts, and_from, lt-ltb, ne_eqb, eqb-false, eq-eqb}
+use Rattle.std.proofs.lemmas.List.{take_all}
+use Rattle.std.proofs.lemmas.List.Elements.{All-from_recursion, recursion_from_All, All-filter}
+use Rattle.std.proofs.lemmas.List.Sorted.{Contains-permutation}
 use Rattle.std.proofs.lemmas.Map.Keys.{IsDistinct-head, IsDistinct-tail, IsDistinct-cons, le_from_not_gt}
 use Rattle.vs_graph.specs.declared.node.Node.{Node}
 use Rattle.vs_graph.specs.declared.edit.Edit.{Edit}
 use Rattle.vs_graph.specs.Edits.{overwritten}
-use Rattle.vs_graph.specs.Good.{body_at, links_at, layers_at, most_links, StandsAt, IsGoodNode, AreLinksGood, IsEntry}
+use Rattle.vs_graph.specs.Good.{body_at, links_at, layers_at, most_links, StandsAt, AreLinksGood, IsEntry}
 use Rattle.vs_graph.specs.GoodTable.{KeepsLinked}
 use Rattle.vs_graph.specs.Relinks.{Relinks}
 use Rattle.vs_graph.specs.Bodies.{Bodies}
@@ -25,13 +23,13 @@ use Rattle.vs_graph.proofs.Lists.{head_absent}
 use Rattle.vs_graph.proofs.Sorts.{In, in_filter, from_filter, filter_of_map}
 use Rattle.vs_rank.specs.declared.Key.{Key}
 use Rattle.vs_link.specs.Linked.{linked, AreChosen}
-use Rattle.vs_link.specs.Selected.{is_shadowed, is_choice, selected_behind, selected}
+use Rattle.vs_link.specs.Selected.{is_choice, selected_behind, selected}
 use Rattle.vs_link.proofs.Chosen.{chosen_all, chosen_few, chosen_once}
-use Rattle.vs_beam.specs.Beam.{key_at, ranked, IsBeam}
+use Rattle.vs_beam.specs.Beam.{ranked, IsBeam}
 use Rattle.vs_beam.proofs.Steps.{has_first}
 use Rattle.vs_unlink.specs.Unlinked.{bare}
 use Rattle.vs_insert.specs.Choosing.{everyone}
-use Rattle.vs_insert.specs.Height.{height, IsHighestBelow}
+use Rattle.vs_insert.specs.Height.{height}
 use Rattle.vs_insert.specs.Rejoined.{IsWithout, HasAnother, others_of, IsStart, IsOrphansChoice, IsRejoined}
 use Rattle.vs_insert.proofs.Found.{found_is, found_stand, found_once, ranked_ids, ranked_long}
 

@@ -1,12 +1,11 @@
 -- An orphan that is joined by ids is joined as the definitions say, by names.
-use Rattle.std.proofs.Common.{◌≡◌, ◌≢◌, ℕ, ◌+◌, ◌<◌, ◌≤◌, ◌^◌, Bool, true, false, not, ◌&&◌, cond, eqb, List, [], ◌∷◌, length, map, get_or, refl, sym, ap, ◌∙◌, subst, arith, inl, inr}
-use Rattle.std.specs.Prelude.{Some, None, IsSome, is_some, IsSomeAnd, IfSome, nat_eq, filter, option_map, All}
+use Rattle.std.proofs.Common.{◌≡◌, ◌≢◌, ℕ, ◌<◌, ◌≤◌, ◌^◌, Bool, true, not, ◌&&◌, eqb, List, [], length, map, refl, sym, ap, ◌∙◌, subst, arith, inl, inr}
+use Rattle.std.specs.Prelude.{Some, None, IsSome, is_some, IsSomeAnd, IfSome, filter, option_map}
 use Rattle.std.specs.Option.{option_map_or}
 use Rattle.std.specs.declared.option.Option.{Option}
 use Rattle.std.proofs.lemmas.Bool.{cases_eq, both_ways, cond-true, cond-false, eq-eqb, ne_eqb}
 use Rattle.std.proofs.lemmas.Slice.Eq.{bytes_eq-Decides}
-use Rattle.vs_defs.specs.Bytes.{Bytes, same_name}
-use Rattle.vs_defs.specs.Store.{Member}
+use Rattle.vs_defs.specs.Bytes.{same_name}
 use Rattle.vs_defs.specs.Links.{bits_at}
 use Rattle.vs_defs.specs.Words.{FitsDimension, bits_of_words}
 use Rattle.vs_defs.specs.Linking as linking
@@ -30,12 +29,10 @@ use Rattle.vs_rank.specs.declared.Key.{Key}
 use Rattle.vs_link.proofs.Bynames.{named_whole}
 use Rattle.vs_link.proofs.Chosen.{behind_named}
 use Rattle.vs_graph.proofs.Standing.{are_members}
-use Rattle.vs_link.specs.Selected.{selected}
 use Rattle.vs_beam.specs.Beam.{key_at, ranked}
 use Rattle.vs_beam.specs.Named.{keys_named}
 use Rattle.vs_beam.proofs.Sets.{beam_is_defined}
 use Rattle.vs_insert.specs.Choosing.{everyone}
-use Rattle.vs_insert.specs.Height.{IsHighestBelow}
 use Rattle.vs_insert.specs.Rejoined.{IsWithout, IsRejoined, HasAnother, others_of}
 use Rattle.vs_insert.proofs.Choices.{dist_named}
 use Rattle.vs_insert.proofs.Found.{found_stand, found_keys}

@@ -1,5 +1,5 @@
 -- How one that a removal left alone is joined again.
-use Rattle.std.specs.Prelude.{◌≡◌, ◌≢◌, ◌<◌, ◌==◌, ℕ, Bool, not, ◌&&◌, is_some, List, length, filter, Some, None, IsSome}
+use Rattle.std.specs.Prelude.{◌≡◌, ◌≢◌, ◌<◌, ◌==◌, ℕ, not, ◌&&◌, is_some, List, length, filter, Some, None, IsSome}
 use Rattle.std.specs.declared.option.Option.{Option}
 use Rattle.vs_graph.specs.declared.node.Node.{Node}
 use Rattle.vs_graph.specs.Good.{body_at, links_at, layers_at, most_links, StandsAt, AreLinksGood}
