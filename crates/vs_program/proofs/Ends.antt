@@ -1,5 +1,5 @@
 -- The ends before the first read.
-use Rattle.std.proofs.Common.{◌≡◌, ◌⊎◌, ◌||◌, ℕ, Bool, true, false, cond, List, [], ◌∷◌, ◌++◌, Option, Some, None, is_some, option_map, codes, refl, sym, inl, inr, append-nil}
+use Rattle.std.proofs.Common.{◌≡◌, ◌||◌, ℕ, Bool, true, false, cond, List, [], ◌∷◌, Option, Some, None, is_some, option_map, codes, refl, sym, inl, inr, append-nil}
 use Rattle.vs_defs.specs.Bytes.{Bytes, same_name}
 use Rattle.vs_defs.specs.ProgramWords.{Settings, setting, settings_of, seed, job_by}
 use Rattle.vs_defs.specs.ProgramWords.Job.{Script}

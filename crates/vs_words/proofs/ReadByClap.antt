@@ -159,7 +159,7 @@ accepted (c ∷ cs) e =
     let some : nat_lt 0 (length (c ∷ cs)) ≡ true = has_some c cs in
     let numeral : is_numeral (c ∷ cs) ≡ true = both _ _ some (few_digits (c ∷ cs) digits) in
     let fits : (nat_lt (digits_value 10 (c ∷ cs)) (2 ^ 64) && (nat_le 0 (digits_value 10 (c ∷ cs)) && nat_le (digits_value 10 (c ∷ cs)) (2 ^ 64 - 1))) ≡ true =
-        rw same (within (number_of (c ∷ cs)) most) in
+    rw same (within (number_of (c ∷ cs)) most) in
     subst (λ v. (is_numeral v && (nat_lt (digits_value 10 v) (2 ^ 64) && (nat_le 0 (digits_value 10 v) && nat_le (digits_value 10 v) (2 ^ 64 - 1)))) ≡ true)
     (sym no_plus) (both _ _ numeral fits)
 
