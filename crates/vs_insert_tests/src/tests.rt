@@ -148,12 +148,31 @@ fn has_left<N: Nodes, L: Ledger>(
     }
 }
 
-/// What is looked at where the hub of three leaves is taken out: the number of orphans, the one that is listed, and the links.
+/// A hub with three leaves, each one bit from it.
+fn star_graph<L: Ledger>(
+    alloc: Global,
+    m: u16,
+    slot: &mut Slot,
+    reads: &mut Steps<L>,
+) -> Result<Graph<ListNodes>, NoMemory>
+    requires low { 4 ≤ m }
+    requires high { m ≤ 256 }
+{
+    let mut graph = Graph::new(ListNodes::new(alloc)?, m, 64);
+    add(alloc, &mut graph, b"hub", 0, 0, slot, reads)?;
+    add(alloc, &mut graph, b"a", 1, 0, slot, reads)?;
+    add(alloc, &mut graph, b"b", 2, 0, slot, reads)?;
+    add(alloc, &mut graph, b"c", 4, 0, slot, reads)?;
+    Ok(graph)
+}
+
+/// What is looked at where the hub is taken out, and where its one orphan is joined again: the number of orphans, the one that is
+/// listed, and the links.
 fn star_by<L: Ledger>(
     alloc: Global,
     m: u16,
     blank: Blank,
-) -> Result<Option<(usize, u32, bool)>, NoMemory>
+) -> Result<Option<(usize, u32, bool, bool)>, NoMemory>
     requires low { 4 ≤ m }
     requires high { m ≤ 256 }
     requires name { blank.name ≡ L.name }
@@ -162,12 +181,8 @@ fn star_by<L: Ledger>(
 {
     let mut reads = Steps::<L>::new(blank);
     let mut slot = Slot::new(alloc);
-    let mut graph = Graph::new(ListNodes::new(alloc)?, m, 64);
-    add(alloc, &mut graph, b"hub", 0, 0, &mut slot, &mut reads)?;
-    add(alloc, &mut graph, b"a", 1, 0, &mut slot, &mut reads)?;
-    add(alloc, &mut graph, b"b", 2, 0, &mut slot, &mut reads)?;
-    add(alloc, &mut graph, b"c", 4, 0, &mut slot, &mut reads)?;
-    let Some((edit, orphans)) = removal(alloc, &graph, 0, &mut reads)? else {
+    let graph = star_graph(alloc, m, &mut slot, &mut reads)?;
+    let Some((mut edit, orphans)) = removal(alloc, &graph, 0, &mut reads)? else {
         return Ok(None);
     };
     let Some(one) = orphans.get(0) else {
@@ -177,23 +192,27 @@ fn star_by<L: Ledger>(
     let left = has_left(&edit, nodes, 1, &[2], &mut reads)
         && has_left(&edit, nodes, 2, &[1], &mut reads)
         && has_left(&edit, nodes, 3, &[], &mut reads);
-    Ok(Some((orphans.len(), one.id, left && one.layer == 0)))
+    rejoin(alloc, &mut edit, &graph, 1, *one, &mut slot, &mut reads)?;
+    let again = has_left(&edit, nodes, 1, &[2, 3], &mut reads)
+        && has_left(&edit, nodes, 2, &[1, 3], &mut reads)
+        && has_left(&edit, nodes, 3, &[1, 2], &mut reads);
+    Ok(Some((orphans.len(), one.id, left && one.layer == 0, again)))
 }
 
-fn star(alloc: Global, m: u16) -> Result<Option<(usize, u32, bool)>, NoMemory>
+fn star(alloc: Global, m: u16) -> Result<Option<(usize, u32, bool, bool)>, NoMemory>
     requires low { 4 ≤ m }
     requires high { m ≤ 256 }
 {
     star_by::<Brand>(alloc, m, Blank::new(1))
 }
 
-// Each leaf is one bit from the hub and two from the others, so it is linked to the hub alone. The first two names are paired,
-// and the third is left alone.
+// Each leaf is one bit from the hub and two from the others, so it is linked to the hub alone. The first two names are paired, and
+// the third is left alone; it is joined again to both.
 #[test]
 fn the_hub_of_a_star_is_taken_out(rt: HostRuntime) -> Result<(), NoMemory> {
     let four = star(rt.alloc(), 4)?;
-    assert!(rt; four == Some((1, 3, true)));
+    assert!(rt; four == Some((1, 3, true, true)));
     let sixteen = star(rt.alloc(), 16)?;
-    assert!(rt; sixteen == Some((1, 3, true)));
+    assert!(rt; sixteen == Some((1, 3, true, true)));
     Ok(())
 }

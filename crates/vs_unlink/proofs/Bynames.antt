@@ -1,7 +1,7 @@
 -- A removal by ids is the definition's removal by names.
-use Rattle.std.proofs.Common.{◌≡◌, ◌≢◌, ℕ, zero, suc, ◌<◌, ◌≤◌, Bool, true, false, not, cond, eqb, ltb, ◌&&◌, ◌||◌, List, [], ◌∷◌, length, get_or, map, refl, sym, ap, ◌∙◌, subst, arith, inl, inr, ◌⊎◌}
-use Rattle.std.specs.Prelude.{Some, None, IsSome, is_some, IsTrue, IsFalse, nat_eq, filter, All, AllPairs, Any, Contains, option_map}
-use Rattle.std.specs.List.{list_any, IsDistinct}
+use Rattle.std.proofs.Common.{◌≡◌, ◌≢◌, ℕ, zero, suc, ◌<◌, Bool, true, false, not, cond, eqb, ltb, ◌&&◌, ◌||◌, List, [], ◌∷◌, length, get_or, map, refl, sym, ap, ◌∙◌, subst, arith, inl, inr, ◌⊎◌}
+use Rattle.std.specs.Prelude.{Some, None, IsSome, is_some, IsTrue, IsFalse, nat_eq, filter, Any, Contains, option_map}
+use Rattle.std.specs.List.{list_any}
 use Rattle.std.specs.Option.{option_map_or}
 use Rattle.std.specs.Ordering.{nat_cmp, ordering_then}
 use Rattle.std.specs.declared.option.Option.{Option}
@@ -23,7 +23,7 @@ use Rattle.vs_graph.specs.Standing.{AreIds, members_of, name_of, named_links, se
 use Rattle.vs_graph.proofs.Lists.{has_without, distinct_without, or_false}
 use Rattle.vs_graph.proofs.Tables.{is_in_joined}
 use Rattle.vs_graph.proofs.Goods.{table_from}
-use Rattle.vs_graph.proofs.Sorts.{In, in_map, from_map, in_filter, from_filter, in_from_test, test_from_in, any_in}
+use Rattle.vs_graph.proofs.Sorts.{In, in_map, from_map, in_filter, from_filter, in_from_test, any_in}
 use Rattle.vs_graph.proofs.Naming.{same_test, neighbours_are, stands_first, names_fixed}
 use Rattle.vs_graph.proofs.Standing.{are_members, are_named}
 use Rattle.vs_unlink.specs.declared.Pair.{Pair}
@@ -32,12 +32,12 @@ use Rattle.vs_unlink.specs.Unlinked.{bare, IsTakenOut}
 use Rattle.vs_unlink.proofs.Detached.{is_in_detached}
 use Rattle.vs_unlink.proofs.Layers.{body_bare, no_layers}
 
-contains_of : {X : Type 0} (x : X) (xs : List X) → In x xs → Contains xs x
+pub contains_of : {X : Type 0} (x : X) (xs : List X) → In x xs → Contains xs x
 contains_of x [] h = absurd h
 contains_of x (y ∷ ys) (inl e) = (0, omega arith, sym e)
 contains_of x (y ∷ ys) (inr h) = let r = contains_of x ys h in (suc r.0, omega (arith, r.1), r.2)
 
-in_of : {X : Type 0} (x : X) (xs : List X) → Contains xs x → In x xs
+pub in_of : {X : Type 0} (x : X) (xs : List X) → Contains xs x → In x xs
 in_of x [] (k, h, e) = absurd (omega arith)
 in_of x (y ∷ ys) (zero, h, e) = inl (sym e)
 in_of x (y ∷ ys) (suc k, h, e) = inr (in_of x ys (k, omega arith, e))
@@ -172,16 +172,16 @@ module _ (at new : ℕ → Option Node) (x m dim : ℕ) (ids : List ℕ) (good :
   pairing : (l : ℕ) → IsPairing (body_at at) (detached (links_at at l) x) (links_at at l x) (pairs_at l)
   pairing l = pairing_by l (ltb l (layers_at at x)) refl
 
-  live_former : (l y : ℕ) → is_in (links_at at l) x y ≡ true → is_live ids y ≡ true
+  pub live_former : (l y : ℕ) → is_in (links_at at l) x y ≡ true → is_live ids y ≡ true
   live_former l y h = mem.live l y ((table l).stand x y h)
 
-  other_former : (l y : ℕ) → is_in (links_at at l) x y ≡ true → y ≢ x
+  pub other_former : (l y : ℕ) → is_in (links_at at l) x y ≡ true → y ≢ x
   other_former l y h e = both_ways (is_in (links_at at l) x x) ((table l).apart x) (subst (λ k. is_in (links_at at l) x k ≡ true) e h)
 
   open_in : (l : ℕ) (p : Pair) → In p (pairs_at l) → IsOpen (body_at at) (detached (links_at at l) x) (links_at at l x) p
   open_in l p k = let c = contains_of p (pairs_at l) k in subst (IsOpen (body_at at) (detached (links_at at l) x) (links_at at l x)) c.2 ((pairing l).are_open c.0 p c.1)
 
-  former_are : (l : ℕ) → neighbours (members_of at dim ids) (named_links at ids) l (name_of at x) ≡ map (name_of at) (filter (is_in (links_at at l) x) ids)
+  pub former_are : (l : ℕ) → neighbours (members_of at dim ids) (named_links at ids) l (name_of at x) ≡ map (name_of at) (filter (is_in (links_at at l) x) ids)
   former_are l =
       neighbours_are (body_at at) (layers_at at) ids (members_of at dim ids) mem (λ k. links_at at k) l (most_links m l) (links_at at l) (named_links at ids) (table l)
       (stands_first (body_at at) (layers_at at) ids (members_of at dim ids) mem (λ k. links_at at k) l (named_links at ids) named) x live_x
@@ -259,7 +259,7 @@ module _ (at new : ℕ → Option Node) (x m dim : ℕ) (ids : List ℕ) (good :
   live_by id true e = and_false (is_live ids id) ∙ sym (ap is_some (ap new (eqb-true id x e) ∙ out.gone))
   live_by id false e = and_true (is_live ids id) ∙ are.live id ∙ sym (live_bare (at id)) ∙ sym (ap is_some (out.rest id (eqb-false id x e))) ∙ live_bare (new id)
 
-  are_left : AreIds new (without x ids)
+  pub are_left : AreIds new (without x ids)
   are_left = record {
     once = distinct_without x ids are.once;
     live = λ id. has_without x id ids ∙ live_by id (eqb id x) refl;
@@ -271,10 +271,10 @@ module _ (at new : ℕ → Option Node) (x m dim : ℕ) (ids : List ℕ) (good :
   other : (a : ℕ) → is_live (without x ids) a ≡ true → a ≢ x
   other a h = eqb-false a x (not-true (eqb a x) (and_parts (is_live ids a) (not (eqb a x)) (sym (has_without x a ids) ∙ h)).1)
 
-  still : (a : ℕ) → is_live ids a ≡ true → a ≢ x → is_live (without x ids) a ≡ true
+  pub still : (a : ℕ) → is_live ids a ≡ true → a ≢ x → is_live (without x ids) a ≡ true
   still a h ne = has_without x a ids ∙ and_from (is_live ids a) (not (eqb a x)) h (not_from_false (eqb a x) (ne_eqb a x ne))
 
-  name_new : (a : ℕ) → a ≢ x → name_at (body_at new) a ≡ name_of at a
+  pub name_new : (a : ℕ) → a ≢ x → name_at (body_at new) a ≡ name_of at a
   name_new a ne = ap (λ o. option_map_or (λ body. body.name) o []) (sym (body_bare (new a)) ∙ ap (option_map (λ node. node.body)) (out.rest a ne) ∙ body_bare (at a))
 
   now_named : IsNamed (body_at new) (without x ids) (λ l. links_at new l) (named_links new (without x ids))

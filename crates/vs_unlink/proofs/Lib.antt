@@ -7,3 +7,6 @@ pub mod Taking
 pub mod Layers
 pub mod Listing
 pub mod Bynames
+pub mod Leavings
+pub mod Reordered
+pub mod OrphanNames

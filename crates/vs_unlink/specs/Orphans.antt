@@ -1,9 +1,12 @@
 -- Members that a removal leaves without a link, layer by layer.
-use Rattle.std.specs.Prelude.{ℕ, ◌+◌, ◌==◌, List, [], ◌++◌, map, filter, length}
+use Rattle.std.specs.Prelude.{ℕ, Option, ◌+◌, ◌==◌, List, [], ◌++◌, map, filter, length}
 use Rattle.std.specs.List.Sorted.{IsPermutation, IsSorted}
 use Rattle.std.specs.Ordering.{nat_cmp}
 use Rattle.std.specs.Cmp.Lexicographic.{slice_cmp}
+use Rattle.vs_defs.specs.Bytes.{Bytes}
+use Rattle.vs_graph.specs.declared.node.Node.{Node}
 use Rattle.vs_graph.specs.Bodies.{Bodies, name_at}
+use Rattle.vs_graph.specs.Standing.{name_of}
 use Rattle.vs_graph.specs.Table.{Table}
 use Rattle.vs_unlink.specs.declared.Orphan.{Orphan}
 
@@ -19,3 +22,7 @@ at_layer layer ids = map (λ y. record { layer = layer; id = y }) ids
 pub data Lists (bodies : Bodies) (tables : ℕ → Table) (former : ℕ → List ℕ) (count : ℕ) : ℕ → List Orphan → Type 0 where
   none : Lists bodies tables former count count []
   next : (n : ℕ) (os : List Orphan) (ids : List ℕ) → Lists bodies tables former count (n + 1) os → AreAlone bodies (tables n) (former n) ids → Lists bodies tables former count n (os ++ at_layer n ids)
+
+-- an orphan by its layer and its name in the graph before
+abbrev pub named_orphan : (ℕ → Option Node) → Orphan → ℕ × Bytes
+named_orphan at orphan = (orphan.layer, name_of at orphan.id)

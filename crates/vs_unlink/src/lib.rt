@@ -7,7 +7,7 @@ mod orphans;
 mod pairs;
 mod removal;
 
-pub use laws::unlinking_by_ids_is_unlinking_by_names;
+pub use laws::{orphans_by_ids_are_orphans_by_names, unlinking_by_ids_is_unlinking_by_names};
 pub use removal::unlink;
 
 /// Two members, the one of lesser name first.

@@ -1,4 +1,4 @@
-use Rattle.std.proofs.Common.{◌-◌, sym, subst, arith}
+use Rattle.std.proofs.Common.{sym, subst, arith}
 use Rattle.vs_graph.specs.Edits.{overwritten}
 use Rattle.vs_graph.specs.Good.{links_at, links_of}
 use Rattle.vs_graph.specs.Good.{body_at}
