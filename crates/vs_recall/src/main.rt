@@ -53,7 +53,7 @@ fn report<R: Print + AllocGlobal, L: Ledger>(
 
 fn main(rt: HostRuntime) -> anyhow::Result<()> {
     let mut words = env::args(&rt)?.skip(1);
-    let members = number_of(words.next(), 1_000)?;
+    let members = number_of(words.next(), 5_000)?;
     let searches = number_of(words.next(), 200)?;
     report::<_, Brand>(&rt, members, searches, Blank::new(1))
 }
