@@ -1,0 +1,59 @@
+//! How many of the nearest ten members the beams of a grown graph find: `vs_recall [MEMBERS [SEARCHES]]` grows a graph by drafts and
+//! commits, looks for its first members again, and prints how many of the ten that the exact scan finds were found.
+#![tactic(auto)]
+
+mod comparing;
+mod error;
+mod growing;
+mod searching;
+mod table;
+mod vectors;
+
+ghost use Rattle.std.specs.Prelude.{◌≡◌, ◌<◌};
+
+use crate::comparing::compare;
+use crate::growing::grown;
+use crate::vectors::table_of;
+use std::env;
+use std::marker::Brand;
+use std::sync::ledger::{Blank, Ledger};
+use vs_graph::{Graph, ListNodes, Steps};
+use vs_slot::Slot;
+
+/// The number that a word names; the default where there is no word.
+fn number_of(word: Option<String>, default: u32) -> anyhow::Result<u32> {
+    match word {
+        Some(text) => Ok(text.parse::<u32>()?),
+        None => Ok(default),
+    }
+}
+
+fn report<R: Print + AllocGlobal, L: Ledger>(
+    rt: &R,
+    members: u32,
+    searches: u32,
+    blank: Blank,
+) -> anyhow::Result<()>
+    requires name { blank.name ≡ L.name }
+    requires parts { blank.parts ≡ L.parts }
+    requires some { 0 < L.parts }
+{
+    let alloc = rt.alloc();
+    let table = table_of(alloc, members)?;
+    let mut slot = Slot::new(alloc);
+    let mut reads = Steps::<L>::new(blank);
+    let graph: Graph<ListNodes> = grown(alloc, &table, &mut slot, &mut reads)?;
+    let recall = compare(alloc, &graph, &table, searches, &mut slot, &mut reads)?;
+    println!(rt;
+        "members {members} recall {} of {}",
+        recall.common, recall.wanted
+    )?;
+    Ok(())
+}
+
+fn main(rt: HostRuntime) -> anyhow::Result<()> {
+    let mut words = env::args(&rt)?.skip(1);
+    let members = number_of(words.next(), 5_000)?;
+    let searches = number_of(words.next(), 200)?;
+    report::<_, Brand>(&rt, members, searches, Blank::new(1))
+}
