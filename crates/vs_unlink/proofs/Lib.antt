@@ -10,3 +10,4 @@ pub mod Bynames
 pub mod Leavings
 pub mod Reordered
 pub mod OrphanNames
+pub mod Listed

@@ -34,7 +34,7 @@ absent_by : (x y : ℕ) (ys rest : List ℕ) (b : Bool) → eqb y x ≡ b → eq
 absent_by x y ys rest true e h f = absurd (eqb-false x y h (sym (eqb-true y x e)))
 absent_by x y ys rest false e h f = ap (λ l. y ∷ l) f
 
-absent : (x : ℕ) (ys : List ℕ) → list_any (nat_eq x) ys ≡ false → without x ys ≡ ys
+pub absent : (x : ℕ) (ys : List ℕ) → list_any (nat_eq x) ys ≡ false → without x ys ≡ ys
 absent x [] h = refl
 absent x (y ∷ ys) h = let p = or_parts (eqb x y) (list_any (nat_eq x) ys) h in absent_by x y ys (without x ys) (eqb y x) refl p.0 (absent x ys p.1)
 

@@ -1,13 +1,15 @@
 -- Members that a removal leaves without a link, layer by layer.
-use Rattle.std.specs.Prelude.{ℕ, Option, ◌+◌, ◌==◌, List, [], ◌++◌, map, filter, length}
+use Rattle.std.specs.Prelude.{◌≡◌, ◌≢◌, ◌<◌, ◌⊎◌, ℕ, Option, ◌+◌, ◌==◌, List, [], ◌++◌, map, filter, length, Contains}
 use Rattle.std.specs.List.Sorted.{IsPermutation, IsSorted}
 use Rattle.std.specs.Ordering.{nat_cmp}
 use Rattle.std.specs.Cmp.Lexicographic.{slice_cmp}
 use Rattle.vs_defs.specs.Bytes.{Bytes}
 use Rattle.vs_graph.specs.declared.node.Node.{Node}
 use Rattle.vs_graph.specs.Bodies.{Bodies, name_at}
-use Rattle.vs_graph.specs.Standing.{name_of}
-use Rattle.vs_graph.specs.Table.{Table}
+use Rattle.vs_defs.specs.Removal.{orphans}
+use Rattle.vs_graph.specs.Good.{links_at, AreLinksGood}
+use Rattle.vs_graph.specs.Standing.{AreIds, name_of, named_links, set_of}
+use Rattle.vs_graph.specs.Table.{Table, without}
 use Rattle.vs_unlink.specs.declared.Orphan.{Orphan}
 
 -- those of the former neighbours that have no link, by name
@@ -26,3 +28,14 @@ pub data Lists (bodies : Bodies) (tables : ℕ → Table) (former : ℕ → List
 -- an orphan by its layer and its name in the graph before
 abbrev pub named_orphan : (ℕ → Option Node) → Orphan → ℕ × Bytes
 named_orphan at orphan = (orphan.layer, name_of at orphan.id)
+
+-- those that are listed are, by layers and names and in their order, the definitions' orphans
+abbrev pub ListsByNames : (ℕ → Option Node) → (ℕ → Option Node) → ℕ → List Orphan → Type 0
+ListsByNames at new x all =
+    (entry : Option ℕ) (m dim cut : ℕ) (ids : List ℕ) → AreLinksGood at m dim → AreIds at ids
+    → map (named_orphan at) all ≡ orphans (set_of at entry m dim cut ids) (name_of at x) (named_links new (without x ids))
+
+-- but for x, whoever had a link at a layer has one left there, or is listed
+abbrev pub KeepsLinkedBut : (ℕ → Option Node) → (ℕ → Option Node) → ℕ → List Orphan → Type 0
+KeepsLinkedBut at new x all =
+    (layer y : ℕ) → y ≢ x → 0 < length (links_at at layer y) → (0 < length (links_at new layer y)) ⊎ Contains all (record { layer = layer; id = y })

@@ -6,6 +6,9 @@ use Rattle.vs_graph.specs.Good.{links_at, AreLinksGood}
 use Rattle.vs_graph.specs.Good.{body_at}
 use Rattle.vs_unlink.specs.declared.Pair.{Pair}
 use Rattle.vs_unlink.specs.Pairs.{detached, paired, IsPairing}
+use Rattle.vs_defs.specs.Removal.{Unlinks}
+use Rattle.vs_graph.specs.Standing.{AreIds, name_of, named_links, set_of}
+use Rattle.vs_graph.specs.Table.{without}
 
 -- the node without any link
 abbrev pub bare_node : Node → Node
@@ -32,3 +35,8 @@ pub record IsTakenOut (at new : ℕ → Option Node) (x layers : ℕ) : Type 0 w
   pub above : (l id : ℕ) → layers ≤ l → id ≢ x → links_at new l id ≡ links_at at l id
   pub rest : (id : ℕ) → id ≢ x → bare (new id) ≡ bare (at id)
   pub good : (m dim : ℕ) → AreLinksGood at m dim → AreLinksGood new m dim
+
+-- of the set that a graph stands for, in whatever order its members stand, the links by names that are left are those that the definitions leave
+abbrev pub UnlinksByNames : (ℕ → Option Node) → (ℕ → Option Node) → ℕ → Type 0
+UnlinksByNames at new x =
+    (entry : Option ℕ) (m dim cut : ℕ) (ids : List ℕ) → AreLinksGood at m dim → AreIds at ids → Unlinks (set_of at entry m dim cut ids) (name_of at x) (named_links new (without x ids))

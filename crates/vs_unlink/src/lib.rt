@@ -1,13 +1,11 @@
 //! How a member is taken out of the graph: its links go, its former neighbours are paired, and those left without a link are listed.
 #![tactic(auto)]
 
-mod laws;
 mod layer;
 mod orphans;
 mod pairs;
 mod removal;
 
-pub use laws::{orphans_by_ids_are_orphans_by_names, unlinking_by_ids_is_unlinking_by_names};
 pub use removal::unlink;
 
 /// Two members, the one of lesser name first.

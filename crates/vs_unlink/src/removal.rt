@@ -2,9 +2,9 @@ ghost use Rattle.std.specs.Prelude.{◌≡◌, ◌<◌, ◌≤◌, ℕ, Some, Is
 ghost use Rattle.vs_graph.specs.Edits.{overwritten};
 ghost use Rattle.vs_graph.specs.Good.{links_at, AreLinksGood};
 ghost use Rattle.vs_graph.specs.Good.{body_at};
-ghost use Rattle.vs_unlink.specs.Orphans.{Lists};
+ghost use Rattle.vs_unlink.specs.Orphans.{Lists, ListsByNames, KeepsLinkedBut};
 ghost use Rattle.vs_graph.specs.Good.{layers_at};
-ghost use Rattle.vs_unlink.specs.Unlinked.{IsOutBelow, IsTakenOut};
+ghost use Rattle.vs_unlink.specs.Unlinked.{IsOutBelow, IsTakenOut, UnlinksByNames};
 
 use crate::Orphan;
 use crate::layer::unlink_layer;
@@ -55,7 +55,7 @@ fn take_out<N: Nodes, L: Ledger>(
 
 /// Takes a member out of the graph, joins the unlinked pairs of its former neighbours at each layer, nearest first, and
 /// lists those left without a link there, by layer descending, then name. One that is now alone at its layer is listed too.
-/// After a refusal the edit is to be dropped; the base is unchanged.
+/// What is left and who is listed are the definitions', by ids and by names. After a refusal the edit is to be dropped; the base is unchanged.
 pub fn unlink<N: Nodes, L: Ledger>(
     alloc: Global,
     edit: &mut Edit,
@@ -67,6 +67,9 @@ pub fn unlink<N: Nodes, L: Ledger>(
     requires live { IsSome (overwritten edit.old (N.at base.now) x) }
     ensures out { OnOk result (IsTakenOut (overwritten edit.old (N.at base.now)) (overwritten edit.new (N.at base.now)) x (layers_at (overwritten edit.old (N.at base.now)) x)) }
     ensures orphans { IfOk result (λ all. Lists (body_at (overwritten edit.new (N.at base.now))) (links_at (overwritten edit.new (N.at base.now))) (λ l. links_at (overwritten edit.old (N.at base.now)) l x) (layers_at (overwritten edit.old (N.at base.now)) x) 0 all) }
+    ensures unlinks { OnOk result (UnlinksByNames (overwritten edit.old (N.at base.now)) (overwritten edit.new (N.at base.now)) x) }
+    ensures named { IfOk result (λ all. ListsByNames (overwritten edit.old (N.at base.now)) (overwritten edit.new (N.at base.now)) x all) }
+    ensures kept { IfOk result (λ all. KeepsLinkedBut (overwritten edit.old (N.at base.now)) (overwritten edit.new (N.at base.now)) x all) }
 {
     let own = take_out(alloc, edit, base, x, reads)?;
     let count = own.links.len() as u8;

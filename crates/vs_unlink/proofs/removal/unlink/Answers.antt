@@ -7,8 +7,12 @@ use Rattle.vs_graph.specs.Good.{links_at, links_of}
 use Rattle.vs_graph.specs.Good.{body_at}
 use Rattle.vs_graph.specs.Good.{layers_at}
 use Rattle.vs_graph.proofs.Relinking.{links_there}
-use Rattle.vs_unlink.specs.Orphans.{Lists}
+use Rattle.vs_unlink.specs.Orphans.{Lists, ListsByNames, KeepsLinkedBut}
+use Rattle.vs_unlink.specs.Unlinked.{UnlinksByNames}
+use Rattle.vs_unlink.proofs.Bynames.{unlinks_named}
+use Rattle.vs_unlink.proofs.Listed.{kept_but}
 use Rattle.vs_unlink.proofs.Listing.{former_live}
+use Rattle.vs_unlink.proofs.OrphanNames.{orphans_named}
 use Rattle.vs_unlink.proofs.removal.unlink.Goals as goal
 
 pub orphans-requires : goal.orphans-requires
@@ -27,3 +31,27 @@ returns-clause-orphans g c =
     (λ all h.
     subst (λ n. Lists (body_at new) (links_at new) (λ (l : ℕ). links_at at l c.args.x) n 0 all) count
     (subst (λ f. Lists (body_at new) (links_at new) f c.len-count.result 0 all) former h)) c.orphans.ensures
+
+pub returns-clause-unlinks : goal.returns-clause-unlinks
+returns-clause-unlinks g c =
+    let base = g.N.Nodes.at c.args.base.now in
+    let at = overwritten c.args.edit.now base in
+    let new = overwritten c.take_out.new.edit base in
+    IfOk-weaker c.orphans.result _ (λ all. UnlinksByNames at new c.args.x)
+    (λ all h entry m dim cut ids good are. unlinks_named at new c.args.x m dim ids good are c.requires.live c.in_ok-own.ensures.out cut entry) c.orphans.ensures
+
+pub returns-clause-named : goal.returns-clause-named
+returns-clause-named g c =
+    let base = g.N.Nodes.at c.args.base.now in
+    let at = overwritten c.args.edit.now base in
+    let new = overwritten c.take_out.new.edit base in
+    IfOk-weaker c.orphans.result (λ all. Lists (body_at new) (links_at new) (λ l. links_at at l c.args.x) (layers_at at c.args.x) 0 all) (ListsByNames at new c.args.x)
+    (λ all h entry m dim cut ids good are. orphans_named at new c.args.x m dim ids good are c.requires.live c.in_ok-own.ensures.out cut entry all h) (returns-clause-orphans g c)
+
+pub returns-clause-kept : goal.returns-clause-kept
+returns-clause-kept g c =
+    let base = g.N.Nodes.at c.args.base.now in
+    let at = overwritten c.args.edit.now base in
+    let new = overwritten c.take_out.new.edit base in
+    IfOk-weaker c.orphans.result (λ all. Lists (body_at new) (links_at new) (λ l. links_at at l c.args.x) (layers_at at c.args.x) 0 all) (KeepsLinkedBut at new c.args.x)
+    (λ all h. kept_but at new c.args.x c.requires.good.0 c.requires.good.1 all c.requires.good.3 c.in_ok-own.ensures.out h) (returns-clause-orphans g c)
