@@ -1,5 +1,5 @@
 -- A removal by ids is the definition's removal by names.
-use Rattle.std.proofs.Common.{◌≡◌, ◌≢◌, ℕ, zero, suc, ◌<◌, Bool, true, false, not, cond, eqb, ltb, ◌&&◌, ◌||◌, List, [], ◌∷◌, length, get_or, map, refl, sym, ap, ◌∙◌, subst, arith, inl, inr, ◌⊎◌}
+use Rattle.std.proofs.Common.{◌≡◌, ◌≢◌, ℕ, ◌<◌, Bool, true, false, not, cond, eqb, ltb, ◌&&◌, ◌||◌, List, [], ◌∷◌, length, get_or, map, refl, sym, ap, ◌∙◌, subst, arith, inl, inr, ◌⊎◌}
 use Rattle.std.specs.Prelude.{Some, None, IsSome, is_some, IsTrue, IsFalse, nat_eq, filter, Any, Contains, option_map}
 use Rattle.std.specs.List.{list_any}
 use Rattle.std.specs.Option.{option_map_or}
@@ -31,16 +31,7 @@ use Rattle.vs_unlink.specs.Pairs.{detached, paired, share, pair_cmp, IsOpen, IsP
 use Rattle.vs_unlink.specs.Unlinked.{bare, IsTakenOut}
 use Rattle.vs_unlink.proofs.Detached.{is_in_detached}
 use Rattle.vs_unlink.proofs.Layers.{body_bare, no_layers}
-
-pub contains_of : {X : Type 0} (x : X) (xs : List X) → In x xs → Contains xs x
-contains_of x [] h = absurd h
-contains_of x (y ∷ ys) (inl e) = (0, omega arith, sym e)
-contains_of x (y ∷ ys) (inr h) = let r = contains_of x ys h in (suc r.0, omega (arith, r.1), r.2)
-
-pub in_of : {X : Type 0} (x : X) (xs : List X) → Contains xs x → In x xs
-in_of x [] (k, h, e) = absurd (omega arith)
-in_of x (y ∷ ys) (zero, h, e) = inl (sym e)
-in_of x (y ∷ ys) (suc k, h, e) = inr (in_of x ys (k, omega arith, e))
+use Rattle.vs_unlink.proofs.Pairing.{contains_in, in_contains}
 
 and_twice : (p q r : Bool) → ((p && q) && r) ≡ (p && (q && r))
 and_twice true q r = refl
@@ -179,7 +170,7 @@ module _ (at new : ℕ → Option Node) (x m dim : ℕ) (ids : List ℕ) (good :
   other_former l y h e = both_ways (is_in (links_at at l) x x) ((table l).apart x) (subst (λ k. is_in (links_at at l) x k ≡ true) e h)
 
   open_in : (l : ℕ) (p : Pair) → In p (pairs_at l) → IsOpen (body_at at) (detached (links_at at l) x) (links_at at l x) p
-  open_in l p k = let c = contains_of p (pairs_at l) k in subst (IsOpen (body_at at) (detached (links_at at l) x) (links_at at l x)) c.2 ((pairing l).are_open c.0 p c.1)
+  open_in l p k = let c = in_contains p (pairs_at l) k in subst (IsOpen (body_at at) (detached (links_at at l) x) (links_at at l x)) c.2 ((pairing l).are_open c.0 p c.1)
 
   pub former_are : (l : ℕ) → neighbours (members_of at dim ids) (named_links at ids) l (name_of at x) ≡ map (name_of at) (filter (is_in (links_at at l) x) ids)
   former_are l =
@@ -192,12 +183,12 @@ module _ (at new : ℕ → Option Node) (x m dim : ℕ) (ids : List ℕ) (good :
   former_has : (l y : ℕ) → is_in (links_at at l) x y ≡ true → Contains (Former l) (name_of at y)
   former_has l y h =
       subst (λ f. Contains f (name_of at y)) (sym (former_are l))
-      (contains_of (name_of at y) (map (name_of at) (filter (is_in (links_at at l) x) ids))
+      (in_contains (name_of at y) (map (name_of at) (filter (is_in (links_at at l) x) ids))
       (in_map (name_of at) y (filter (is_in (links_at at l) x) ids) (in_filter (is_in (links_at at l) x) y ids h (in_from_test y ids (live_former l y h)))))
 
   former_from : (l : ℕ) (name : Bytes) → Contains (Former l) name → (y : ℕ) × (is_in (links_at at l) x y ≡ true) × (name_of at y ≡ name)
   former_from l name h =
-      let r = from_map (name_of at) name (filter (is_in (links_at at l) x) ids) (in_of name (map (name_of at) (filter (is_in (links_at at l) x) ids)) (subst (λ f. Contains f name) (former_are l) h)) in
+      let r = from_map (name_of at) name (filter (is_in (links_at at l) x) ids) (contains_in name (map (name_of at) (filter (is_in (links_at at l) x) ids)) (subst (λ f. Contains f name) (former_are l) h)) in
       (r.0, (from_filter (is_in (links_at at l) x) r.0 ids r.1).1, r.2)
 
   open_named : (l : ℕ) (p : Pair) → IsOpen (body_at at) (detached (links_at at l) x) (links_at at l x) p → rules.IsOpenPair without_x l (Former l) (names_of_pair (body_at at) p)
@@ -218,10 +209,10 @@ module _ (at new : ℕ → Option Node) (x m dim : ℕ) (ids : List ℕ) (good :
       → Contains (pairs_at l) q ⊎ Any (λ p. (share p q ≡ true) × (pair_cmp (body_at at) p q ≡ Less)) (pairs_at l)
       → Contains (named_pairs l) (names_of_pair (body_at at) q)
       ⊎ Any (λ p. IsTrue (rules.share_a_name p (names_of_pair (body_at at) q)) × (rules.pair_cmp (members_of at dim ids) p (names_of_pair (body_at at) q) ≡ Less)) (named_pairs l)
-  rest_named l q o (inl c) = inl (contains_of (names_of_pair (body_at at) q) (named_pairs l) (in_map (names_of_pair (body_at at)) q (pairs_at l) (in_of q (pairs_at l) c)))
+  rest_named l q o (inl c) = inl (in_contains (names_of_pair (body_at at) q) (named_pairs l) (in_map (names_of_pair (body_at at)) q (pairs_at l) (contains_in q (pairs_at l) c)))
   rest_named l q o (inr (k, p, h, e, sb)) =
-      let c = contains_of (names_of_pair (body_at at) p) (named_pairs l) (in_map (names_of_pair (body_at at)) p (pairs_at l) (in_of p (pairs_at l) (k, h, e))) in
-      let w = open_in l p (in_of p (pairs_at l) (k, h, e)) in
+      let c = in_contains (names_of_pair (body_at at) p) (named_pairs l) (in_map (names_of_pair (body_at at)) p (pairs_at l) (contains_in p (pairs_at l) (k, h, e))) in
+      let w = open_in l p (contains_in p (pairs_at l) (k, h, e)) in
       let po = live_former l p.one w.one in
       let pt = live_former l p.other w.other in
       let qo = live_former l q.one o.one in

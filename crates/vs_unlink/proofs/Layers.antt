@@ -21,7 +21,8 @@ use Rattle.vs_graph.specs.Table.{joined}
 use Rattle.vs_unlink.specs.declared.Pair.{Pair}
 use Rattle.vs_unlink.specs.Pairs.{has, detached, paired, IsPairing}
 use Rattle.vs_unlink.specs.Unlinked.{bare, IsOutBelow, IsTakenOut}
-use Rattle.vs_unlink.proofs.Pairing.{In, in_contains}
+use Rattle.vs_graph.proofs.Sorts.{In}
+use Rattle.vs_unlink.proofs.Pairing.{in_contains}
 use Rattle.vs_unlink.proofs.Paired.{same_list}
 
 emptied : (xs : List (List ℕ)) (i : ℕ) → map {A = List ℕ} {B = List ℕ} (λ list. []) (slice_set xs i []) ≡ map (λ list. []) xs

@@ -1,5 +1,9 @@
 pub mod Standing
 pub mod Steps
+pub mod ByName
+pub mod Ranked
+pub mod Marks
+pub mod Found
 pub mod Pairing
 pub mod Detached
 pub mod Paired

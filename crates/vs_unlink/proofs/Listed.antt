@@ -1,8 +1,8 @@
 -- Who had a link at a layer has one left, or is listed.
-use Rattle.std.proofs.Common.{◌≡◌, ◌≢◌, ℕ, ◌+◌, ◌<◌, ◌≤◌, Bool, true, false, cond, eqb, ltb, List, [], ◌∷◌, ◌++◌, ◌⊎◌, length, refl, sym, ap, ◌∙◌, subst, arith, inl, inr}
-use Rattle.std.specs.Prelude.{Contains, filter, nat_eq}
+use Rattle.std.proofs.Common.{◌≡◌, ◌≢◌, ℕ, ◌+◌, ◌<◌, ◌≤◌, Bool, true, false, eqb, ltb, List, [], ◌∷◌, ◌++◌, ◌⊎◌, length, refl, sym, ap, ◌∙◌, subst, arith, inl, inr}
+use Rattle.std.specs.Prelude.{Contains, filter}
 use Rattle.std.specs.declared.option.Option.{Option}
-use Rattle.std.proofs.lemmas.Bool.{cases_eq, both_ways, eqb-true, eq-eqb, ne_eqb, cond-false, ltb-true, ltb-false}
+use Rattle.std.proofs.lemmas.Bool.{cases_eq, eq-eqb, ne_eqb, cond-false, ltb-true, ltb-false}
 use Rattle.std.proofs.lemmas.List.Elements.{Contains-append_left, Contains-append_right}
 use Rattle.std.proofs.lemmas.List.Sorted.{Contains-permutation}
 use Rattle.vs_graph.specs.declared.node.Node.{Node}
@@ -18,7 +18,7 @@ use Rattle.vs_unlink.specs.declared.Pair.{Pair}
 use Rattle.vs_unlink.specs.Orphans.{AreAlone, at_layer, Lists, none, next, KeepsLinkedBut}
 use Rattle.vs_unlink.specs.Pairs.{detached, paired}
 use Rattle.vs_unlink.specs.Unlinked.{IsTakenOut}
-use Rattle.vs_unlink.proofs.Bynames.{contains_of, in_of}
+use Rattle.vs_unlink.proofs.Pairing.{contains_in, in_contains}
 use Rattle.vs_unlink.proofs.Reordered.{absent}
 
 abbrev orphan_at : ℕ → ℕ → Orphan
@@ -28,8 +28,8 @@ orphan_at layer y = record { layer = layer; id = y }
 listed_here : (bodies : Bodies) (t : Table) (former ids : List ℕ) (layer y : ℕ) → AreAlone bodies t former ids → In y former → length (t y) ≡ 0 → Contains (at_layer layer ids) (orphan_at layer y)
 listed_here bodies t former ids layer y h inside alone =
     let found = filter (λ z. eqb (length (t z)) 0) former in
-    let there : Contains ids y = Contains-permutation found ids y h.same (contains_of y found (in_filter (λ z. eqb (length (t z)) 0) y former (eq-eqb (length (t y)) 0 alone) inside)) in
-    contains_of (orphan_at layer y) (at_layer layer ids) (in_map (orphan_at layer) y ids (in_of y ids there))
+    let there : Contains ids y = Contains-permutation found ids y h.same (in_contains y found (in_filter (λ z. eqb (length (t z)) 0) y former (eq-eqb (length (t y)) 0 alone) inside)) in
+    in_contains (orphan_at layer y) (at_layer layer ids) (in_map (orphan_at layer) y ids (contains_in y ids there))
 
 listed : (bodies : Bodies) (tables : ℕ → Table) (former : ℕ → List ℕ) (count n layer y : ℕ) (all : List Orphan) → n ≤ layer → layer < count → In y (former layer) → length (tables layer y) ≡ 0
     → Lists bodies tables former count n all → Contains all (orphan_at layer y)

@@ -28,7 +28,8 @@ use Rattle.vs_rank.proofs.Sorted.{sort_is, ascends_from_sort}
 use Rattle.vs_unlink.specs.declared.Orphan.{Orphan}
 use Rattle.vs_unlink.specs.Orphans.{AreAlone, at_layer, Lists, none, next, named_orphan}
 use Rattle.vs_unlink.specs.Unlinked.{IsTakenOut}
-use Rattle.vs_unlink.proofs.Bynames.{contains_of, in_of, former_are, live_former, other_former, are_left, still, name_new}
+use Rattle.vs_unlink.proofs.Pairing.{contains_in, in_contains}
+use Rattle.vs_unlink.proofs.Bynames.{former_are, live_former, other_former, are_left, still, name_new}
 use Rattle.vs_unlink.proofs.Leavings.{map_same_in, members_left}
 use Rattle.vs_unlink.proofs.Reordered.{distinct_filter, same_ids, name_order, filter_sorted, names_sorted, none_below, layers_more}
 
@@ -97,7 +98,7 @@ module _ (at new : ℕ → Option Node) (x m dim : ℕ) (ids : List ℕ) (good :
     other_alone : (y : ℕ) → In y alone → y ≢ x
     other_alone y inside =
         let found = filter (is_alone layer) (links_at at layer x) in
-        let there = in_of y found (Contains-permutation alone found y (IsPermutation-sym found alone h.same) (contains_of y alone inside)) in
+        let there = contains_in y found (Contains-permutation alone found y (IsPermutation-sym found alone h.same) (in_contains y alone inside)) in
         linked_other layer y (test_from_in y (links_at at layer x) (from_filter (is_alone layer) y (links_at at layer x) there).0)
 
     same_names : map (name_of new) alone ≡ map (name_of at) alone

@@ -11,7 +11,8 @@ use Rattle.vs_graph.specs.GoodTable.{IsGoodTable}
 use Rattle.vs_graph.proofs.Tables.{is_in_joined, joined_good, put_there}
 use Rattle.vs_unlink.specs.declared.Pair.{Pair}
 use Rattle.vs_unlink.specs.Pairs.{has, share, detached, paired, IsOpen, IsPairing}
-use Rattle.vs_unlink.proofs.Pairing.{In, in_contains}
+use Rattle.vs_graph.proofs.Sorts.{In}
+use Rattle.vs_unlink.proofs.Pairing.{in_contains}
 use Rattle.vs_unlink.proofs.Detached.{detached_good, room_after}
 
 pub record CanJoin (layers : ℕ → ℕ) (layer most : ℕ) (u : Table) (p : Pair) : Type 0 where

@@ -1,21 +1,18 @@
 -- Members that a removal leaves without a link, layer by layer.
 use Rattle.std.specs.Prelude.{◌≡◌, ◌≢◌, ◌<◌, ◌⊎◌, ℕ, Option, ◌+◌, ◌==◌, List, [], ◌++◌, map, filter, length, Contains}
-use Rattle.std.specs.List.Sorted.{IsPermutation, IsSorted}
-use Rattle.std.specs.Ordering.{nat_cmp}
-use Rattle.std.specs.Cmp.Lexicographic.{slice_cmp}
 use Rattle.vs_defs.specs.Bytes.{Bytes}
 use Rattle.vs_graph.specs.declared.node.Node.{Node}
-use Rattle.vs_graph.specs.Bodies.{Bodies, name_at}
+use Rattle.vs_graph.specs.Bodies.{Bodies}
 use Rattle.vs_defs.specs.Removal.{orphans}
 use Rattle.vs_graph.specs.Good.{links_at, AreLinksGood}
 use Rattle.vs_graph.specs.Standing.{AreIds, name_of, named_links, set_of}
 use Rattle.vs_graph.specs.Table.{Table, without}
 use Rattle.vs_unlink.specs.declared.Orphan.{Orphan}
+use Rattle.vs_unlink.specs.Named.{AreByName}
 
 -- those of the former neighbours that have no link, by name
-pub record AreAlone (bodies : Bodies) (t : Table) (former ids : List ℕ) : Type 0 where
-  pub same : IsPermutation (filter (λ y. length (t y) == 0) former) ids
-  pub sorted : IsSorted (λ a b. slice_cmp nat_cmp (name_at bodies a) (name_at bodies b)) ids
+abbrev pub AreAlone : Bodies → Table → List ℕ → List ℕ → Type 0
+AreAlone bodies t former alone = AreByName bodies (filter (λ y. length (t y) == 0) former) alone
 
 abbrev pub at_layer : ℕ → List ℕ → List Orphan
 at_layer layer ids = map (λ y. record { layer = layer; id = y }) ids

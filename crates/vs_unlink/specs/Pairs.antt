@@ -1,7 +1,7 @@
 -- How the former neighbours of a member are paired at a layer after it is taken out.
-use Rattle.std.specs.Prelude.{◌≡◌, ℕ, ◌==◌, Bool, true, false, not, ◌&&◌, ◌||◌, cond, List, [], ◌∷◌, ◌++◌, filter, fold, map, flat_map, nat_eq, All, AllPairs, Contains, Any, ◌⊎◌}
+use Rattle.std.specs.Prelude.{◌≡◌, ℕ, ◌==◌, Bool, true, false, ◌||◌, cond, List, [], ◌∷◌, ◌++◌, fold, nat_eq, All, AllPairs, Contains, Any, ◌⊎◌}
 use Rattle.std.specs.List.{list_any}
-use Rattle.std.specs.Ordering.{nat_cmp, ordering_then, is_lt}
+use Rattle.std.specs.Ordering.{nat_cmp, ordering_then}
 use Rattle.std.specs.Cmp.Lexicographic.{slice_cmp}
 use Rattle.std.specs.declared.cmp.Ordering.{Ordering}
 use Rattle.std.specs.declared.cmp.Ordering.TheVariants.{Less}
@@ -42,16 +42,7 @@ pub record IsPairing (bodies : Bodies) (t : Table) (former : List ℕ) (added : 
 abbrev pub paired : Table → List Pair → Table
 paired t added = fold (λ u p. joined u p.one p.other) t added
 
--- ---- the pairs in the order in which they are looked at, and which are taken
-
-abbrev pub is_open : Bodies → Table → ℕ → ℕ → Bool
-is_open bodies t one z = is_lt (slice_cmp nat_cmp (name_at bodies one) (name_at bodies z)) && not (is_in t one z)
-
-abbrev pub open_with : Bodies → Table → List ℕ → ℕ → List Pair
-open_with bodies t ids one = map (λ z. record { one = one; other = z }) (filter (is_open bodies t one) ids)
-
-abbrev pub open_pairs : Bodies → Table → List ℕ → List ℕ → List Pair
-open_pairs bodies t ids ones = flat_map (open_with bodies t ids) ones
+-- ---- which pairs are taken, one after the other
 
 -- a pair is taken where no taken one shares a member with it
 abbrev pub take_pair : List Pair → Pair → List Pair

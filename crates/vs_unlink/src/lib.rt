@@ -2,6 +2,7 @@
 #![tactic(auto)]
 
 mod layer;
+mod named;
 mod orphans;
 mod pairs;
 mod removal;

@@ -1,47 +1,33 @@
-ghost use Rattle.std.specs.Prelude.{◌≡◌, ◌++◌, ◌==◌, ◌∷◌, [], ℕ, List as Items, IsSome, IfOk, OnOk, All, map, filter, length, is_some};
+ghost use Rattle.std.specs.Prelude.{◌≡◌, ◌++◌, ◌==◌, ℕ, List as Items, IsSome, IfOk, OnOk, All, filter, length};
 ghost use Rattle.vs_graph.specs.Edits.{overwritten};
-ghost use Rattle.vs_graph.specs.Good.{links_at, links_of};
-ghost use Rattle.vs_graph.specs.Good.{body_at};
-ghost use Rattle.vs_graph.specs.Bodies.{name_at};
-ghost use Rattle.vs_unlink.specs.Lonely.{lonely_id, IsNamedSo};
+ghost use Rattle.vs_graph.specs.Good.{body_at, links_at, links_of};
 ghost use Rattle.vs_unlink.specs.Orphans.{AreAlone, Lists, at_layer};
 
 use crate::Orphan;
+use crate::named::by_name;
 use std::alloc::Global;
 use std::sync::ledger::Ledger;
 use vs_graph::{Edit, Node, Nodes, Steps, degree, links, live_node};
 use vs_outside::{List, NoMemory};
 
-/// A member without a link, in the order in which they are listed.
-#[derive(PartialEq, Eq, PartialOrd, Ord, Drop)]
-pub(crate) struct Lonely<'a> {
-    pub(crate) name: &'a [u8],
-    pub(crate) id: u32,
-}
-
 /// Those of some members that have no link at a layer.
-fn alone_of<'a, N: Nodes, L: Ledger>(
+fn alone_of<N: Nodes, L: Ledger>(
     alloc: Global,
-    edit: &'a Edit,
-    base: &'a N,
+    edit: &Edit,
+    base: &N,
     ids: &[u32],
     layer: u8,
     reads: &mut Steps<L>,
-) -> Result<Vec<Lonely<'a>>, NoMemory>
+) -> Result<List<u32>, NoMemory>
     requires { All (λ id. IsSome (overwritten edit.now (N.at base.now) id)) ids.now }
-    ensures ids { IfOk result (λ all. map lonely_id all.items ≡ filter (λ y. length (links_at (overwritten edit.entry.now (N.at base.entry.now)) layer y) == 0) ids.now) }
-    ensures named { IfOk result (λ all. All (IsNamedSo (body_at (overwritten edit.entry.now (N.at base.entry.now)))) all.items) }
+    ensures { IfOk result (λ alone. alone ≡ filter (λ y. length (links_at (overwritten edit.now (N.at base.now)) layer y) == 0) ids.now) }
 {
-    let mut alone = Vec::new(alloc);
+    let mut alone = List::new(alloc);
     for id in ids {
-        let own = live_node(edit, base, *id, reads);
-        if degree(own, layer) > 0 {
+        if degree(live_node(edit, base, *id, reads), layer) > 0 {
             continue;
         }
-        alone.push(Lonely {
-            name: own.body.get().name.as_slice(),
-            id: *id,
-        })?;
+        alone.push(*id)?;
     }
     Ok(alone)
 }
@@ -59,10 +45,10 @@ fn list_layer<N: Nodes, L: Ledger>(
     requires { All (λ id. IsSome (overwritten edit.now (N.at base.now) id)) (links_of former.now layer) }
     ensures { OnOk result ((alone : Items ℕ) × AreAlone (body_at (overwritten edit.now (N.at base.now))) (links_at (overwritten edit.now (N.at base.now)) layer) (links_of former.now layer) alone × (orphans.new ≡ orphans.old ++ at_layer layer alone)) }
 {
-    let mut alone = alone_of(alloc, edit, base, links(former, layer), layer, reads)?;
-    alone.sort()?;
-    for one in &alone {
-        orphans.push(Orphan { layer, id: one.id })?;
+    let alone = alone_of(alloc, edit, base, links(former, layer), layer, reads)?;
+    let sorted = by_name(alloc, edit, base, alone.as_slice(), reads)?;
+    for id in sorted.as_slice() {
+        orphans.push(Orphan { layer, id: *id })?;
     }
     Ok(())
 }

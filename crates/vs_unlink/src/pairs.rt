@@ -1,138 +1,112 @@
-ghost use Rattle.std.specs.Prelude.{◌≡◌, ◌≤◌, ◌&&◌, ◌++◌, ◌||◌, ◌==◌, not, Some, None, IsSome, IfOk, length, All, map, nat_eq, fold, []};
-ghost use Rattle.std.specs.List.{list_any};
-ghost use Rattle.std.specs.Ordering.{is_lt, nat_cmp};
-ghost use Rattle.std.specs.Cmp.Lexicographic.{slice_cmp};
+ghost use Rattle.std.specs.Prelude.{◌≡◌, ◌<◌, ◌+◌, ◌||◌, IsSome, IfOk, OnOk, length, All, map, nat_eq, false, slice_index_or};
+ghost use Rattle.std.specs.List.{list_any, IsDistinct};
 ghost use Rattle.vs_graph.specs.Edits.{overwritten};
-ghost use Rattle.vs_graph.specs.Good.{links_at, links_of};
-ghost use Rattle.vs_graph.specs.Good.{body_at};
+ghost use Rattle.vs_graph.specs.Good.{links_at, links_of, body_at};
 ghost use Rattle.vs_graph.specs.Bodies.{AreAlike};
-ghost use Rattle.vs_unlink.specs.Pairs.{open_with, open_pairs, share, has, matched, Differ, IsPairing};
-ghost use Rattle.vs_unlink.specs.Seen.{pair_of, IsSeen};
+ghost use Rattle.vs_unlink.specs.Pairs.{matched, Differ, IsPairing};
+ghost use Rattle.vs_unlink.specs.Candidates.{pair_at, IsCandidate, IsWithin, HasPairsBelow};
 
 use crate::Pair;
+use crate::named::by_name;
 use std::alloc::Global;
 use std::sync::ledger::Ledger;
 use vs_graph::{Edit, Node, Nodes, Steps, links, live_node};
 use vs_hamming::distance;
 use vs_outside::{List, NoMemory};
 
-/// An unlinked pair, in the order in which pairs are looked at.
-#[derive(PartialEq, Eq, PartialOrd, Ord, Drop)]
-pub(crate) struct Candidate<'a> {
+/// An unlinked pair of former neighbours, by their places in the order of names. Candidates are looked at by distance, then the lesser
+/// name, then the greater.
+#[derive(Clone, Copy, PartialEq, Eq, PartialOrd, Ord)]
+pub(crate) struct Candidate {
     pub(crate) dist: u32,
-    pub(crate) lesser: &'a [u8],
-    pub(crate) greater: &'a [u8],
-    pub(crate) one: u32,
-    pub(crate) other: u32,
+    pub(crate) one: usize,
+    pub(crate) other: usize,
 }
 
-/// Whether a node comes before another by name and isn't linked to it.
-fn opens(one: &Node, other: &Node, id: u32, layer: u8) -> bool
-    ensures { result ≡ (is_lt (slice_cmp nat_cmp one.now.body.name other.now.body.name) && not (list_any (nat_eq id) (links_of one.now layer))) }
+fn is_linked(node: &Node, layer: u8, id: u32) -> bool
+    ensures { result ≡ list_any (nat_eq id) (links_of node.now layer) }
 {
-    let before = one
-        .body
-        .get()
-        .name
-        .as_slice()
-        .cmp(other.body.get().name.as_slice())
-        .is_lt();
-    before && !links(one, layer).contains(&id)
+    links(node, layer).contains(&id)
 }
 
-/// Puts the unlinked pairs of one former neighbour last.
-fn pairs_with<'a, N: Nodes, L: Ledger>(
-    mut found: Vec<Candidate<'a>>,
-    edit: &'a Edit,
-    base: &'a N,
-    one: u32,
-    ids: &[u32],
+/// Puts the unlinked pairs of the former neighbour at a place with those behind it last.
+fn pair_with_later<N: Nodes, L: Ledger>(
+    found: &mut Vec<Candidate>,
+    edit: &Edit,
+    base: &N,
+    ranked: &[u32],
+    one: usize,
     layer: u8,
     reads: &mut Steps<L>,
-) -> Result<Vec<Candidate<'a>>, NoMemory>
+) -> Result<(), NoMemory>
     requires alike { AreAlike (body_at (overwritten edit.now (N.at base.now))) }
-    requires one { IsSome (overwritten edit.now (N.at base.now) one) }
-    requires live { All (λ id. IsSome (overwritten edit.now (N.at base.now) id)) ids.now }
-    requires seen { All (IsSeen (body_at (overwritten edit.now (N.at base.now)))) found.items }
-    ensures pairs { IfOk result (λ all. map pair_of all.items ≡ map pair_of found.entry.items ++ open_with (body_at (overwritten edit.entry.now (N.at base.entry.now))) (links_at (overwritten edit.entry.now (N.at base.entry.now)) layer) ids.now one) }
-    ensures seen { IfOk result (λ all. All (IsSeen (body_at (overwritten edit.entry.now (N.at base.entry.now)))) all.items) }
+    requires live { All (λ id. IsSome (overwritten edit.now (N.at base.now) id)) ranked.now }
+    requires within { one < length ranked.now }
+    requires sound { All (IsCandidate (body_at (overwritten edit.now (N.at base.now))) (links_at (overwritten edit.now (N.at base.now)) layer) ranked.now) found.old.items }
+    requires all { HasPairsBelow (links_at (overwritten edit.now (N.at base.now)) layer) ranked.now one (map (pair_at ranked.now) found.old.items) }
+    ensures sound { OnOk result (All (IsCandidate (body_at (overwritten edit.now (N.at base.now))) (links_at (overwritten edit.now (N.at base.now)) layer) ranked.now) found.new.items) }
+    ensures all { OnOk result (HasPairsBelow (links_at (overwritten edit.now (N.at base.now)) layer) ranked.now (one + 1) (map (pair_at ranked.now) found.new.items)) }
 {
-    let a = live_node(edit, base, one, reads);
-    for other in ids {
-        let b = live_node(edit, base, *other, reads);
-        if !opens(a, b, *other, layer) {
+    let a = live_node(edit, base, ranked[one], reads);
+    for other in one + 1..ranked.len() {
+        if is_linked(a, layer, ranked[other]) {
             continue;
         }
-        found.push(Candidate {
-            dist: distance(a.body.get().bits.as_slice(), b.body.get().bits.as_slice()),
-            lesser: a.body.get().name.as_slice(),
-            greater: b.body.get().name.as_slice(),
-            one,
-            other: *other,
-        })?;
+        let b = live_node(edit, base, ranked[other], reads);
+        let dist = distance(a.body.get().bits.as_slice(), b.body.get().bits.as_slice());
+        found.push(Candidate { dist, one, other })?;
     }
-    Ok(found)
+    Ok(())
 }
 
-/// The unlinked pairs of former neighbours, in their order.
-pub(crate) fn pairs<'a, N: Nodes, L: Ledger>(
+/// The unlinked pairs of former neighbours, which stand in the order of names.
+fn candidates<N: Nodes, L: Ledger>(
     alloc: Global,
-    edit: &'a Edit,
-    base: &'a N,
-    ids: &[u32],
+    edit: &Edit,
+    base: &N,
+    ranked: &[u32],
     layer: u8,
     reads: &mut Steps<L>,
-) -> Result<Vec<Candidate<'a>>, NoMemory>
+) -> Result<Vec<Candidate>, NoMemory>
     requires alike { AreAlike (body_at (overwritten edit.now (N.at base.now))) }
-    requires live { All (λ id. IsSome (overwritten edit.now (N.at base.now) id)) ids.now }
-    ensures pairs { IfOk result (λ all. map pair_of all.items ≡ open_pairs (body_at (overwritten edit.entry.now (N.at base.entry.now))) (links_at (overwritten edit.entry.now (N.at base.entry.now)) layer) ids.now ids.now) }
-    ensures seen { IfOk result (λ all. All (IsSeen (body_at (overwritten edit.entry.now (N.at base.entry.now)))) all.items) }
+    requires live { All (λ id. IsSome (overwritten edit.now (N.at base.now) id)) ranked.now }
+    ensures sound { IfOk result (λ found. All (IsCandidate (body_at (overwritten edit.now (N.at base.now))) (links_at (overwritten edit.now (N.at base.now)) layer) ranked.now) found.items) }
+    ensures all { IfOk result (λ found. HasPairsBelow (links_at (overwritten edit.now (N.at base.now)) layer) ranked.now (length ranked.now) (map (pair_at ranked.now) found.items)) }
 {
     let mut found = Vec::new(alloc);
-    for one in ids {
-        found = pairs_with(found, edit, base, *one, ids, layer, reads)?;
+    for one in 0..ranked.len() {
+        pair_with_later(&mut found, edit, base, ranked, one, layer, reads)?;
     }
     Ok(found)
 }
 
-fn shares(p: Pair, r: Pair) -> bool
-    ensures { result ≡ share p r }
+/// Whether one of a candidate's members has a new link, by the marks at their places.
+fn is_taken(marks: &[bool], candidate: &Candidate) -> bool
+    requires one { candidate.now.one < length marks.now }
+    requires other { candidate.now.other < length marks.now }
+    ensures { result ≡ (slice_index_or marks.now candidate.now.one false || slice_index_or marks.now candidate.now.other false) }
 {
-    r.one == p.one || r.one == p.other || r.other == p.one || r.other == p.other
+    marks[candidate.one] || marks[candidate.other]
 }
 
-/// Whether one of some pairs shares a member with a pair.
-fn is_taken(added: &[Pair], pair: Pair) -> bool
-    ensures { result ≡ list_any (λ q. share q pair) added.now }
+/// The pairs that are joined: of candidates in their order, each whose members have no new link yet.
+fn matching(alloc: Global, ranked: &[u32], found: &[Candidate]) -> Result<List<Pair>, NoMemory>
+    requires once { IsDistinct nat_eq ranked.now }
+    requires within { All (IsWithin ranked.now) found.now }
+    ensures { IfOk result (λ added. added ≡ matched (map (pair_at ranked.now) found.now)) }
 {
-    for p in added {
-        if shares(*p, pair) {
-            return true;
-        }
-    }
-    false
-}
-
-fn pair_from(candidate: &Candidate) -> Pair
-    ensures { result ≡ pair_of candidate.now }
-{
-    Pair {
-        one: candidate.one,
-        other: candidate.other,
-    }
-}
-
-/// The pairs that are joined, of pairs in order.
-pub(crate) fn matched_of(alloc: Global, found: &[Candidate]) -> Result<List<Pair>, NoMemory>
-    ensures { IfOk result (λ added. added ≡ matched (map pair_of found.now)) }
-{
+    let mut marks = vec![in alloc; false; ranked.len()]?;
     let mut added = List::new(alloc);
     for candidate in found {
-        let pair = pair_from(candidate);
-        if is_taken(added.as_slice(), pair) {
+        if is_taken(&marks, candidate) {
             continue;
         }
-        added.push(pair)?;
+        marks[candidate.one] = true;
+        marks[candidate.other] = true;
+        added.push(Pair {
+            one: ranked[candidate.one],
+            other: ranked[candidate.other],
+        })?;
     }
     Ok(added)
 }
@@ -148,10 +122,12 @@ pub(crate) fn pairing<N: Nodes, L: Ledger>(
 ) -> Result<List<Pair>, NoMemory>
     requires alike { AreAlike (body_at (overwritten edit.now (N.at base.now))) }
     requires live { All (λ id. IsSome (overwritten edit.now (N.at base.now) id)) ids.now }
+    requires once { IsDistinct nat_eq ids.now }
     requires differ { Differ (body_at (overwritten edit.now (N.at base.now))) ids.now }
     ensures { IfOk result (λ added. IsPairing (body_at (overwritten edit.now (N.at base.now))) (links_at (overwritten edit.now (N.at base.now)) layer) ids.now added) }
 {
-    let mut found = pairs(alloc, edit, base, ids, layer, reads)?;
-    found.sort()?;
-    matched_of(alloc, &found)
+    let ranked = by_name(alloc, edit, base, ids, reads)?;
+    let mut found = candidates(alloc, edit, base, ranked.as_slice(), layer, reads)?;
+    found.sort_unstable();
+    matching(alloc, ranked.as_slice(), &found)
 }

@@ -1,4 +1,6 @@
 use Rattle.std.proofs.Common.{◌≡◌, ◌∙◌, sym, subst}
+use Rattle.std.specs.Prelude.{nat_eq}
+use Rattle.std.specs.List.{IsDistinct}
 use Rattle.vs_graph.specs.Edits.{overwritten}
 use Rattle.vs_graph.specs.Good.{links_at, most_links}
 use Rattle.vs_graph.specs.Good.{body_at}
@@ -22,6 +24,12 @@ pairing-requires-clause-live g c =
     let base = g.N.Nodes.at c.args.base.now in
     mid_live (overwritten c.args.edit.now base) c.requires.good.0 c.requires.good.1 c.args.layer c.args.x c.requires.good.3 (overwritten c.detach.new.edit base) c.in_ok-former.ensures.links c.as_slice.result.now
     (c.as_slice.ensures ∙ c.in_ok-former.ensures.former)
+
+pub pairing-requires-clause-once : goal.pairing-requires-clause-once
+pairing-requires-clause-once g c =
+    let base = g.N.Nodes.at c.args.base.now in
+    let table = table_from (overwritten c.args.edit.now base) c.requires.good.0 c.requires.good.1 c.args.layer c.requires.good.3 in
+    subst (IsDistinct nat_eq) (sym (c.as_slice.ensures ∙ c.in_ok-former.ensures.former)) (table.once c.args.x)
 
 pub pairing-requires-clause-differ : goal.pairing-requires-clause-differ
 pairing-requires-clause-differ g c =

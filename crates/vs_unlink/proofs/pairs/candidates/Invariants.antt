@@ -1,0 +1,13 @@
+use Rattle.std.proofs.Common.{map}
+use Rattle.std.specs.Prelude.{All}
+use Rattle.vs_graph.specs.Edits.{overwritten}
+use Rattle.vs_graph.specs.Good.{links_at, body_at}
+use Rattle.vs_unlink.specs.Candidates.{pair_at, IsCandidate, HasPairsBelow}
+use Rattle.vs_unlink.proofs.pairs.candidates.Given as goal
+
+-- the pairs of those before this one are there
+abbrev pub invariant-loop-one : goal.invariant-loop-one
+invariant-loop-one g l = record {
+  sound : All (IsCandidate (body_at (overwritten l.edit (g.N.Nodes.at l.base))) (links_at (overwritten l.edit (g.N.Nodes.at l.base)) l.layer) l.ranked) l.found.items;
+  all : HasPairsBelow (links_at (overwritten l.edit (g.N.Nodes.at l.base)) l.layer) l.ranked l.one (map (pair_at l.ranked) l.found.items);
+}
