@@ -1,5 +1,6 @@
 //! How many of the nearest ten members the beams of a grown graph find: `vs_recall [MEMBERS [SEARCHES]]` grows a graph by drafts and
-//! commits, looks for its first members again, and prints how many of the ten that the exact scan finds were found.
+//! commits, looks for its first members again, and prints how many of the ten that the exact scan finds were found. How many members
+//! were inserted a second goes to standard error, since it differs from run to run.
 #![tactic(auto)]
 
 mod comparing;
@@ -16,7 +17,9 @@ use crate::growing::grown;
 use crate::vectors::table_of;
 use std::env;
 use std::marker::Brand;
+use std::rt::Clock;
 use std::sync::ledger::{Blank, Ledger};
+use std::time::{Duration, Instant};
 use vs_graph::{Graph, ListNodes, Steps};
 use vs_slot::Slot;
 
@@ -28,7 +31,11 @@ fn number_of(word: Option<String>, default: u32) -> anyhow::Result<u32> {
     }
 }
 
-fn report<R: Print + AllocGlobal, L: Ledger>(
+fn per_second(count: u32, time: Duration) -> u128 {
+    u128::from(count) * 1_000_000 / time.as_micros().max(1)
+}
+
+fn report<R: Print + Eprint + Clock + AllocGlobal, L: Ledger>(
     rt: &R,
     members: u32,
     searches: u32,
@@ -42,12 +49,15 @@ fn report<R: Print + AllocGlobal, L: Ledger>(
     let table = table_of(alloc, members)?;
     let mut slot = Slot::new(alloc);
     let mut reads = Steps::<L>::new(blank);
+    let start = Instant::now(rt)?;
     let graph: Graph<ListNodes> = grown(alloc, &table, &mut slot, &mut reads)?;
+    let rate = per_second(members, start.elapsed(rt)?);
     let recall = compare(alloc, &graph, &table, searches, &mut slot, &mut reads)?;
     println!(rt;
         "members {members} recall {} of {}",
         recall.common, recall.wanted
     )?;
+    eprintln!(rt; "{rate} insertions a second")?;
     Ok(())
 }
 
