@@ -12,5 +12,6 @@ mod relinking;
 
 pub use committing::commit;
 pub use draft::{Chosen, Draft};
+pub use highest::highest_but;
 pub use preparing::prepare;
 pub use relinking::relink;
