@@ -1,11 +1,14 @@
 -- How one that a removal left alone is joined again.
 use Rattle.std.specs.Prelude.{◌≡◌, ◌≢◌, ◌<◌, ◌==◌, ℕ, not, ◌&&◌, is_some, List, length, filter, Some, None, IsSome}
 use Rattle.std.specs.declared.option.Option.{Option}
+use Rattle.vs_defs.specs.Removal as rules
 use Rattle.vs_graph.specs.declared.node.Node.{Node}
 use Rattle.vs_graph.specs.Good.{body_at, links_at, layers_at, most_links, StandsAt, AreLinksGood}
 use Rattle.vs_graph.specs.GoodTable.{KeepsLinked}
 use Rattle.vs_graph.specs.Bodies.{words_at}
 use Rattle.vs_graph.specs.Relinks.{Relinks}
+use Rattle.vs_graph.specs.Standing.{AreIds, name_of, named_links, set_of}
+use Rattle.vs_graph.specs.Table.{without}
 use Rattle.vs_rank.specs.declared.Key.{Key}
 use Rattle.vs_link.specs.Linked.{linked, AreChosen}
 use Rattle.vs_link.specs.Selected.{selected}
@@ -53,3 +56,9 @@ pub record IsRejoined (at now new : ℕ → Option Node) (m dim entry layer y : 
   pub good : AreLinksGood new m dim
   pub kept : KeepsLinked (links_at now layer) (links_at new layer)
   pub own : 0 < length (links_at new layer y)
+
+-- The same by names, as the definitions say it of the set before and of the links without x. It holds whatever the order of the members.
+abbrev pub RejoinsByNames : (at now new : ℕ → Option Node) (top : Option ℕ) (m dim entry layer y : ℕ) → Type 0
+RejoinsByNames at now new top m dim entry layer y =
+    (x cut : ℕ) (ids : List ℕ) → AreIds at ids → IsWithout at now x
+    → rules.Rejoins (set_of at top m dim cut ids) (name_of at x) (Some (name_of at entry)) (named_links now (without x ids)) layer (name_of at y) (named_links new (without x ids))

@@ -39,8 +39,10 @@ fn higher<N: Nodes, L: Ledger>(
     }
 }
 
-/// The highest member of an edit's meaning but for one: of greatest level, and of those of least name.
-pub(crate) fn highest_but<N: Nodes, L: Ledger>(
+/// The highest member of an edit's meaning but for one: of greatest level, and of those of least name. None where there is no other. A
+/// removal takes it for the entry after it where the entry itself goes, and an orphan that is the entry begins its beam at it. The one left
+/// out need not be live any more.
+pub fn highest_but<N: Nodes, L: Ledger>(
     edit: &Edit,
     base: &N,
     but: u32,

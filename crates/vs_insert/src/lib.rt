@@ -7,12 +7,11 @@ mod committing;
 mod draft;
 mod highest;
 mod joining;
-mod laws;
 mod preparing;
 mod relinking;
 
 pub use committing::commit;
 pub use draft::{Chosen, Draft};
-pub use laws::rejoining_by_ids_is_rejoining_by_names;
+pub use highest::highest_but;
 pub use preparing::prepare;
 pub use relinking::relink;

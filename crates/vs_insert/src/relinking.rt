@@ -4,7 +4,7 @@ ghost use Rattle.vs_rank.specs.Tests.{Answers};
 ghost use Rattle.vs_graph.specs.Edits.{overwritten};
 ghost use Rattle.vs_graph.specs.Good.{links_at, IsEntry, StandsAt, AreLinksGood};
 ghost use Rattle.vs_insert.specs.Choosing.{everyone};
-ghost use Rattle.vs_insert.specs.Rejoined.{IsWithout, HasAnother, IsStart, IsOrphansChoice, IsRejoined, others_of};
+ghost use Rattle.vs_insert.specs.Rejoined.{IsWithout, HasAnother, IsStart, IsOrphansChoice, IsRejoined, RejoinsByNames, others_of};
 
 use crate::highest::highest_but;
 use std::alloc::Global;
@@ -132,7 +132,8 @@ fn rejoin<N: Nodes, F: Testing + Drop, L: Ledger>(
     requires single { IsProp (F.ready test) }
     requires callable { F.ready test }
     requires everyone { Answers (F.gives test) everyone }
-    ensures { OnOk result (IsRejoined (N.at graph.now.nodes) (overwritten edit.old (N.at graph.now.nodes)) (overwritten edit.new (N.at graph.now.nodes)) graph.now.m graph.now.dim entry orphan.layer orphan.id) }
+    ensures joined { OnOk result (IsRejoined (N.at graph.now.nodes) (overwritten edit.old (N.at graph.now.nodes)) (overwritten edit.new (N.at graph.now.nodes)) graph.now.m graph.now.dim entry orphan.layer orphan.id) }
+    ensures rejoins { OnOk result (RejoinsByNames (N.at graph.now.nodes) (overwritten edit.old (N.at graph.now.nodes)) (overwritten edit.new (N.at graph.now.nodes)) graph.now.entry graph.now.m graph.now.dim entry orphan.layer orphan.id) }
 {
     let wanted = Wanted::new(test);
     let chosen = choice_for(alloc, edit, graph, entry, orphan, ef, &wanted, slot, reads)?;
@@ -152,7 +153,8 @@ fn rejoin<N: Nodes, F: Testing + Drop, L: Ledger>(
 
 /// Joins a member that a removal left without a link at a layer where others stand: a beam of width 200 in the graph before the removal,
 /// from the entry after it, or where that is the orphan itself, from the highest of the others; the removed member and the orphan are
-/// left out of what it found. After a refusal the edit is to be dropped; the graph is as it was, and the slot may have any marks.
+/// left out of what it found. The links are those that the definitions make, by ids and by names. After a refusal the edit is to be
+/// dropped; the graph is as it was, and the slot may have any marks.
 pub fn relink<N: Nodes, L: Ledger>(
     alloc: Global,
     edit: &mut Edit,
@@ -170,7 +172,8 @@ pub fn relink<N: Nodes, L: Ledger>(
     requires stands { StandsAt (overwritten edit.old (N.at graph.now.nodes)) orphan.layer orphan.id }
     requires free { links_at (overwritten edit.old (N.at graph.now.nodes)) orphan.layer orphan.id ≡ [] }
     requires another { HasAnother (overwritten edit.old (N.at graph.now.nodes)) orphan.layer orphan.id }
-    ensures { OnOk result (IsRejoined (N.at graph.now.nodes) (overwritten edit.old (N.at graph.now.nodes)) (overwritten edit.new (N.at graph.now.nodes)) graph.now.m graph.now.dim entry orphan.layer orphan.id) }
+    ensures joined { OnOk result (IsRejoined (N.at graph.now.nodes) (overwritten edit.old (N.at graph.now.nodes)) (overwritten edit.new (N.at graph.now.nodes)) graph.now.m graph.now.dim entry orphan.layer orphan.id) }
+    ensures rejoins { OnOk result (RejoinsByNames (N.at graph.now.nodes) (overwritten edit.old (N.at graph.now.nodes)) (overwritten edit.new (N.at graph.now.nodes)) graph.now.entry graph.now.m graph.now.dim entry orphan.layer orphan.id) }
 {
     let everyone = |_attr: Option<&[u8]>| true;
     rejoin(alloc, edit, graph, entry, orphan, ef, everyone, slot, reads)
