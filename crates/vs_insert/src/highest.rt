@@ -40,7 +40,7 @@ fn higher<N: Nodes, L: Ledger>(
 }
 
 /// The highest member of an edit's meaning but for one: of greatest level, and of those of least name.
-pub(crate) fn highest_but<N: Nodes, L: Ledger>(
+pub fn highest_but<N: Nodes, L: Ledger>(
     edit: &Edit,
     base: &N,
     but: u32,

@@ -13,6 +13,7 @@ mod relinking;
 
 pub use committing::commit;
 pub use draft::{Chosen, Draft};
+pub use highest::highest_but;
 pub use laws::rejoining_by_ids_is_rejoining_by_names;
 pub use preparing::prepare;
 pub use relinking::relink;
