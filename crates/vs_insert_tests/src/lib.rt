@@ -1,11 +1,15 @@
-//! Tests of drafts, commits and removals: small graphs of members with one word each, grown by drafts.
+//! Tests of drafts, commits and removals: graphs of members with one word each, grown by drafts, and a plain test of the good graph.
 #![tactic(auto)]
 
+mod goodness;
+#[cfg(test)]
+mod goodness_tests;
 mod growing;
 mod readiness;
 mod removing;
 #[cfg(test)]
 mod tests;
 
+pub use goodness::{Bounds, Fault, check_graph, check_nodes, check_others};
 pub use growing::{add, add_leaves, body_of, draft_of, settle};
 pub use removing::{rejoin, removal};
