@@ -12,4 +12,4 @@ mod tests;
 
 pub use goodness::{Bounds, Fault, check_graph, check_nodes, check_others};
 pub use growing::{add, add_leaves, body_of, draft_of, settle};
-pub use removing::{rejoin, removal};
+pub use removing::{Removed, rejoin, removal, remove};
