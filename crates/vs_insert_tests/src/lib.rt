@@ -6,10 +6,12 @@ mod goodness;
 mod goodness_tests;
 mod growing;
 mod readiness;
+#[cfg(test)]
+mod removal_tests;
 mod removing;
 #[cfg(test)]
 mod tests;
 
 pub use goodness::{Bounds, Fault, check_graph, check_nodes, check_others};
-pub use growing::{add, add_leaves, body_of, draft_of, settle};
+pub use growing::{add, add_leaves, body_of, draft_of, grown, settle};
 pub use removing::{Removed, rejoin, removal, remove};
