@@ -1,2 +1,2 @@
 pub mod Lasting
-pub mod Removed
+pub mod Without

@@ -5,8 +5,8 @@ ghost use Rattle.vs_insert.specs.Added.{AreDrafted};
 
 use std::alloc::Global;
 use std::sync::ledger::Ledger;
-use vs_graph::{Body, Graph, Nodes, Shared, Steps};
-use vs_graph_tests::is_new_name;
+use vs_graph::{Body, FreshNodes, Graph, Nodes, Shared, Steps};
+use vs_graph_tests::{is_new_name, word_at};
 use vs_insert::{Draft, commit, prepare};
 use vs_outside::{List, NoMemory, Text};
 use vs_slot::Slot;
@@ -99,4 +99,32 @@ pub fn add_leaves<N: Nodes, L: Ledger>(
         add(alloc, graph, &name, 1 << leaf, 0, slot, reads)?;
     }
     Ok(())
+}
+
+/// The vector of a member among so many: twenty are a hub, without a pattern, and the leaves that have one bit more or less.
+fn vector_at(number: u16) -> u64 {
+    let hub = word_at(u64::from(number / 20));
+    match number % 20 {
+        0 => hub,
+        leaf => hub ^ (1 << leaf),
+    }
+}
+
+/// A graph of so many members with M 4. The level of each is drawn without a pattern: three of four stay at the level below.
+pub fn grown<N: FreshNodes + Drop, L: Ledger>(
+    alloc: Global,
+    count: u16,
+    slot: &mut Slot,
+    reads: &mut Steps<L>,
+) -> Result<Graph<N>, NoMemory>
+    ensures { IfOk result (λ graph. graph.dim ≡ 64) }
+{
+    let mut graph = Graph::new(N::fresh(alloc)?, 4, 64);
+    for number in 0..count {
+        let name = number.to_be_bytes();
+        let word = vector_at(number);
+        let level = (word_at(u64::from(number)).trailing_zeros() / 2).min(15) as u8;
+        add(alloc, &mut graph, &name, word, level, slot, reads)?;
+    }
+    Ok(graph)
 }

@@ -3,27 +3,31 @@ ghost use Rattle.std.specs.Prelude.{◌≡◌, ◌<◌, ◌≤◌};
 use super::*;
 use std::alloc::Global;
 use std::marker::Brand;
+use std::process::Abort;
 use std::sync::ledger::{Blank, Ledger};
 use vs_graph::{Edit, FreshNodes, Graph, ListNodes, Nodes, Steps, links};
 use vs_graph_tests::Counted;
 use vs_outside::NoMemory;
 use vs_slot::Slot;
 
-fn has<N: Nodes, L: Ledger>(
-    nodes: &N,
+/// Asserts that a member of an edit's meaning has these links at a layer.
+fn assert_links<A: Abort, N: Nodes, L: Ledger>(
+    rt: &A,
+    edit: &Edit,
+    base: &N,
     id: u32,
     layer: u8,
     ids: &[u32],
     reads: &mut Steps<L>,
-) -> bool {
-    match nodes.get(id, reads) {
-        Some(node) => links(node, layer) == ids,
-        None => false,
+) {
+    match edit.node(base, id, reads) {
+        Some(node) => assert!(rt; links(node, layer) == ids, "links of {id} at layer {layer}"),
+        None => panic!(rt; "no member has the id {id}"),
     }
 }
 
-/// What is looked at of three members of the levels 0, 2 and 1.
-fn levels_by<L: Ledger>(alloc: Global, blank: Blank) -> Result<[bool; 7], NoMemory>
+/// Three members of the levels 0, 2 and 1.
+fn levels_by<A: Abort, L: Ledger>(rt: &A, alloc: Global, blank: Blank) -> Result<(), NoMemory>
     requires name { blank.name ≡ L.name }
     requires parts { blank.parts ≡ L.parts }
     requires some { 0 < L.parts }
@@ -32,38 +36,29 @@ fn levels_by<L: Ledger>(alloc: Global, blank: Blank) -> Result<[bool; 7], NoMemo
     let mut slot = Slot::new(alloc);
     let mut graph = Graph::new(ListNodes::new(alloc)?, 4, 64);
     add(alloc, &mut graph, b"a", 0, 0, &mut slot, &mut reads)?;
-    let first = graph.entry() == Some(0);
+    assert_eq!(rt; graph.entry(), Some(0), "behind the first");
     add(alloc, &mut graph, b"b", 15, 2, &mut slot, &mut reads)?;
-    let second = graph.entry() == Some(1);
+    assert_eq!(rt; graph.entry(), Some(1), "behind a higher one");
     add(alloc, &mut graph, b"c", 7, 1, &mut slot, &mut reads)?;
+    assert_eq!(rt; graph.entry(), Some(1), "behind a lower one");
+    let unchanged = Edit::new(alloc);
     let nodes = graph.nodes();
-    Ok([
-        first,
-        second,
-        graph.entry() == Some(1),
-        has(nodes, 2, 0, &[1, 0], &mut reads),
-        has(nodes, 2, 1, &[1], &mut reads),
-        has(nodes, 1, 0, &[0, 2], &mut reads),
-        has(nodes, 1, 2, &[], &mut reads),
-    ])
-}
-
-fn levels(alloc: Global) -> Result<[bool; 7], NoMemory> {
-    levels_by::<Brand>(alloc, Blank::new(1))
+    assert_links(rt, &unchanged, nodes, 2, 0, &[1, 0], &mut reads);
+    assert_links(rt, &unchanged, nodes, 2, 1, &[1], &mut reads);
+    assert_links(rt, &unchanged, nodes, 1, 0, &[0, 2], &mut reads);
+    assert_links(rt, &unchanged, nodes, 1, 2, &[], &mut reads);
+    Ok(())
 }
 
 // The first member is the entry, and one of a greater level takes its place. The third is one bit from the second and
 // three from the first, which are four bits apart: both are chosen, the nearer first.
 #[test]
 fn entries_and_levels(rt: HostRuntime) -> Result<(), NoMemory> {
-    for seen in levels(rt.alloc())? {
-        assert!(rt; seen);
-    }
-    Ok(())
+    levels_by::<HostRuntime, Brand>(&rt, rt.alloc(), Blank::new(1))
 }
 
-/// What is looked at of two drafts of one graph.
-fn drafts_by<L: Ledger>(alloc: Global, blank: Blank) -> Result<[bool; 4], NoMemory>
+/// Two drafts of one graph.
+fn drafts_by<A: Abort, L: Ledger>(rt: &A, alloc: Global, blank: Blank) -> Result<(), NoMemory>
     requires name { blank.name ≡ L.name }
     requires parts { blank.parts ≡ L.parts }
     requires some { 0 < L.parts }
@@ -75,31 +70,54 @@ fn drafts_by<L: Ledger>(alloc: Global, blank: Blank) -> Result<[bool; 4], NoMemo
     let c = draft_of(alloc, &graph, b"c", 2, 0, &mut slot, &mut reads)?;
     let d = draft_of(alloc, &graph, b"d", 0, 0, &mut slot, &mut reads)?;
     settle(alloc, &mut graph, d, &mut reads)?;
-    let both = settle(alloc, &mut graph, c, &mut reads)?;
+    let is_settled = settle(alloc, &mut graph, c, &mut reads)?;
+    assert!(rt; is_settled, "the draft of an older graph is refused");
+    let unchanged = Edit::new(alloc);
     let nodes = graph.nodes();
-    Ok([
-        both,
-        has(nodes, 0, 0, &[1, 2], &mut reads),
-        has(nodes, 1, 0, &[0], &mut reads),
-        has(nodes, 2, 0, &[0], &mut reads),
-    ])
-}
-
-fn drafts(alloc: Global) -> Result<[bool; 4], NoMemory> {
-    drafts_by::<Brand>(alloc, Blank::new(1))
+    assert_links(rt, &unchanged, nodes, 0, 0, &[1, 2], &mut reads);
+    assert_links(rt, &unchanged, nodes, 1, 0, &[0], &mut reads);
+    assert_links(rt, &unchanged, nodes, 2, 0, &[0], &mut reads);
+    Ok(())
 }
 
 // Each draft chose the one member that it knew of. The one that is committed last doesn't look for the other.
 #[test]
 fn two_drafts_of_one_graph(rt: HostRuntime) -> Result<(), NoMemory> {
-    for seen in drafts(rt.alloc())? {
-        assert!(rt; seen);
-    }
+    drafts_by::<HostRuntime, Brand>(&rt, rt.alloc(), Blank::new(1))
+}
+
+/// The most nodes that a commit with M 4 looks at for a layer.
+const LOOKS_AT_A_LAYER: u64 = 4 * (2 * 4 + 4) + 2 * 4 + 4;
+
+/// Commits a draft that was made before eight leaves came. There is a look at each name, and the commit's own are bounded.
+fn commit_late<A: Abort, L: Ledger>(
+    rt: &A,
+    alloc: Global,
+    graph: &mut Graph<Counted>,
+    level: u8,
+    slot: &mut Slot,
+    reads: &mut Steps<L>,
+) -> Result<(), NoMemory>
+    requires dim { graph.old.dim ≡ 64 }
+    requires low { level ≤ 15 }
+{
+    let late = draft_of(alloc, graph, b"i", 256, level, slot, reads)?;
+    add_leaves(alloc, graph, slot, reads)?;
+    let names = u64::from(graph.nodes().limit());
+    let before = graph.nodes().gets();
+    let is_settled = settle(alloc, graph, late, reads)?;
+    assert!(rt; is_settled, "a late draft of level {level} is refused");
+    let looks = graph.nodes().gets().wrapping_sub(before);
+    let most = names + (u64::from(level) + 1) * LOOKS_AT_A_LAYER;
+    assert!(rt;
+        names < looks && looks <= most,
+        "{looks} looks at level {level}, {most} at most"
+    );
     Ok(())
 }
 
-/// What is looked at where a draft's one choice has become full: the links, and how many nodes were looked at for the commit.
-fn full_by<L: Ledger>(alloc: Global, blank: Blank) -> Result<(bool, bool, u64), NoMemory>
+/// A late draft where the one choice has become full, and one of level 2 below a higher member.
+fn late_by<A: Abort, L: Ledger>(rt: &A, alloc: Global, blank: Blank) -> Result<(), NoMemory>
     requires name { blank.name ≡ L.name }
     requires parts { blank.parts ≡ L.parts }
     requires some { 0 < L.parts }
@@ -108,44 +126,29 @@ fn full_by<L: Ledger>(alloc: Global, blank: Blank) -> Result<(bool, bool, u64), 
     let mut slot = Slot::new(alloc);
     let mut graph = Graph::new(Counted::fresh(alloc)?, 4, 64);
     add(alloc, &mut graph, b"hub", 0, 0, &mut slot, &mut reads)?;
-    let late = draft_of(alloc, &graph, b"i", 256, 0, &mut slot, &mut reads)?;
-    add_leaves(alloc, &mut graph, &mut slot, &mut reads)?;
-    let before = graph.nodes().gets();
-    settle(alloc, &mut graph, late, &mut reads)?;
+    commit_late(rt, alloc, &mut graph, 0, &mut slot, &mut reads)?;
+    let unchanged = Edit::new(alloc);
     let nodes = graph.nodes();
-    let gets = nodes.gets().wrapping_sub(before);
-    let hub = has(nodes, 0, 0, &[1, 2, 3, 4, 5, 6, 7, 8], &mut reads);
-    let leaf = has(nodes, 1, 0, &[0, 9], &mut reads) && has(nodes, 9, 0, &[1], &mut reads);
-    Ok((hub, leaf, gets))
+    assert_links(
+        rt,
+        &unchanged,
+        nodes,
+        0,
+        0,
+        &[1, 2, 3, 4, 5, 6, 7, 8],
+        &mut reads,
+    );
+    assert_links(rt, &unchanged, nodes, 1, 0, &[0, 9], &mut reads);
+    assert_links(rt, &unchanged, nodes, 9, 0, &[1], &mut reads);
+    let mut high: Graph<Counted> = grown(alloc, 60, &mut slot, &mut reads)?;
+    add(alloc, &mut high, b"hub", 0, 3, &mut slot, &mut reads)?;
+    commit_late(rt, alloc, &mut high, 2, &mut slot, &mut reads)
 }
 
-fn full(alloc: Global) -> Result<(bool, bool, u64), NoMemory> {
-    full_by::<Brand>(alloc, Blank::new(1))
-}
-
-// With M 4 the hub is full with its eight leaves, none farther than the late one, which is forced to the first leaf. A
-// commit at one layer looks at 4 * 12 + 12 nodes at most, behind one look at each of nine names.
+// With M 4 the hub is full with its eight leaves, none farther than the late one, which is forced to the first leaf.
 #[test]
 fn a_choice_that_lost_its_room(rt: HostRuntime) -> Result<(), NoMemory> {
-    let (hub, leaf, gets) = full(rt.alloc())?;
-    assert!(rt; hub);
-    assert!(rt; leaf);
-    assert!(rt; 9 < gets);
-    assert!(rt; gets <= 69, "{gets}");
-    Ok(())
-}
-
-fn has_left<N: Nodes, L: Ledger>(
-    edit: &Edit,
-    base: &N,
-    id: u32,
-    ids: &[u32],
-    reads: &mut Steps<L>,
-) -> bool {
-    match edit.node(base, id, reads) {
-        Some(node) => links(node, 0) == ids,
-        None => false,
-    }
+    late_by::<HostRuntime, Brand>(&rt, rt.alloc(), Blank::new(1))
 }
 
 /// A hub with three leaves, each one bit from it.
@@ -166,13 +169,8 @@ fn star_graph<L: Ledger>(
     Ok(graph)
 }
 
-/// What is looked at where the hub is taken out, and where its one orphan is joined again: the number of orphans, the one that is
-/// listed, and the links.
-fn star_by<L: Ledger>(
-    alloc: Global,
-    m: u16,
-    blank: Blank,
-) -> Result<Option<(usize, u32, bool, bool)>, NoMemory>
+/// The hub is taken out, and its one orphan is joined again.
+fn star_by<A: Abort, L: Ledger>(rt: &A, alloc: Global, m: u16, blank: Blank) -> Result<(), NoMemory>
     requires low { 4 ≤ m }
     requires high { m ≤ 256 }
     requires name { blank.name ≡ L.name }
@@ -183,36 +181,28 @@ fn star_by<L: Ledger>(
     let mut slot = Slot::new(alloc);
     let graph = star_graph(alloc, m, &mut slot, &mut reads)?;
     let Some((mut edit, orphans)) = removal(alloc, &graph, 0, &mut reads)? else {
-        return Ok(None);
-    };
-    let Some(one) = orphans.get(0) else {
-        return Ok(None);
+        panic!(rt; "the hub is not there with M {m}");
     };
     let nodes = graph.nodes();
-    let left = has_left(&edit, nodes, 1, &[2], &mut reads)
-        && has_left(&edit, nodes, 2, &[1], &mut reads)
-        && has_left(&edit, nodes, 3, &[], &mut reads);
-    rejoin(alloc, &mut edit, &graph, 1, *one, &mut slot, &mut reads)?;
-    let again = has_left(&edit, nodes, 1, &[2, 3], &mut reads)
-        && has_left(&edit, nodes, 2, &[1, 3], &mut reads)
-        && has_left(&edit, nodes, 3, &[1, 2], &mut reads);
-    Ok(Some((orphans.len(), one.id, left && one.layer == 0, again)))
-}
-
-fn star(alloc: Global, m: u16) -> Result<Option<(usize, u32, bool, bool)>, NoMemory>
-    requires low { 4 ≤ m }
-    requires high { m ≤ 256 }
-{
-    star_by::<Brand>(alloc, m, Blank::new(1))
+    assert_links(rt, &edit, nodes, 1, 0, &[2], &mut reads);
+    assert_links(rt, &edit, nodes, 2, 0, &[1], &mut reads);
+    assert_links(rt, &edit, nodes, 3, 0, &[], &mut reads);
+    assert_eq!(rt; orphans.len(), 1, "orphans with M {m}");
+    let Some(orphan) = orphans.get(0) else {
+        panic!(rt; "no orphan with M {m}");
+    };
+    assert_eq!(rt; (orphan.layer, orphan.id), (0, 3), "with M {m}");
+    rejoin(alloc, &mut edit, &graph, 1, *orphan, &mut slot, &mut reads)?;
+    assert_links(rt, &edit, nodes, 1, 0, &[2, 3], &mut reads);
+    assert_links(rt, &edit, nodes, 2, 0, &[1, 3], &mut reads);
+    assert_links(rt, &edit, nodes, 3, 0, &[1, 2], &mut reads);
+    Ok(())
 }
 
 // Each leaf is one bit from the hub and two from the others, so it is linked to the hub alone. The first two names are paired, and
 // the third is left alone; it is joined again to both.
 #[test]
 fn the_hub_of_a_star_is_taken_out(rt: HostRuntime) -> Result<(), NoMemory> {
-    let four = star(rt.alloc(), 4)?;
-    assert!(rt; four == Some((1, 3, true, true)));
-    let sixteen = star(rt.alloc(), 16)?;
-    assert!(rt; sixteen == Some((1, 3, true, true)));
-    Ok(())
+    star_by::<HostRuntime, Brand>(&rt, rt.alloc(), 4, Blank::new(1))?;
+    star_by::<HostRuntime, Brand>(&rt, rt.alloc(), 16, Blank::new(1))
 }

@@ -2,6 +2,7 @@ use Rattle.std.proofs.Common.{◌≡◌, ap, sym, subst}
 use Rattle.vs_graph.specs.Edits.{overwritten}
 use Rattle.vs_insert.specs.Rejoined.{IsWithout}
 use Rattle.vs_insert_tests.specs.Ready.{IsReady}
+use Rattle.vs_insert_tests.proofs.Without.{without_yet}
 use Rattle.vs_insert_tests.proofs.removing.rejoin.Goals as goal
 
 pub is_ready-requires : goal.is_ready-requires
@@ -17,14 +18,19 @@ relink-requires-clause-top g c =
 pub relink-requires-clause-stands : goal.relink-requires-clause-stands
 relink-requires-clause-stands g c =
     let same : g.N.Nodes.at c.nodes.result.now ≡ g.N.Nodes.at c.args.graph.now.nodes = ap g.N.Nodes.at c.nodes.ensures.nodes in
-    (subst (λ f. IsReady (overwritten c.args.edit.now f) c.args.entry c.args.orphan.layer c.args.orphan.id) same (c.is_ready.ensures c.if-not-is_ready.false)).stands
+    (subst (λ f. IsReady (overwritten c.args.edit.now f) c.args.entry c.args.orphan.layer c.args.orphan.id) same (c.is_ready.ensures c.if-not-is_ready.false)).alone.stands
 
 pub relink-requires-clause-free : goal.relink-requires-clause-free
 relink-requires-clause-free g c =
     let same : g.N.Nodes.at c.nodes.result.now ≡ g.N.Nodes.at c.args.graph.now.nodes = ap g.N.Nodes.at c.nodes.ensures.nodes in
-    (subst (λ f. IsReady (overwritten c.args.edit.now f) c.args.entry c.args.orphan.layer c.args.orphan.id) same (c.is_ready.ensures c.if-not-is_ready.false)).free
+    (subst (λ f. IsReady (overwritten c.args.edit.now f) c.args.entry c.args.orphan.layer c.args.orphan.id) same (c.is_ready.ensures c.if-not-is_ready.false)).alone.free
 
 pub relink-requires-clause-another : goal.relink-requires-clause-another
 relink-requires-clause-another g c =
     let same : g.N.Nodes.at c.nodes.result.now ≡ g.N.Nodes.at c.args.graph.now.nodes = ap g.N.Nodes.at c.nodes.ensures.nodes in
-    (subst (λ f. IsReady (overwritten c.args.edit.now f) c.args.entry c.args.orphan.layer c.args.orphan.id) same (c.is_ready.ensures c.if-not-is_ready.false)).another
+    (subst (λ f. IsReady (overwritten c.args.edit.now f) c.args.entry c.args.orphan.layer c.args.orphan.id) same (c.is_ready.ensures c.if-not-is_ready.false)).alone.another
+
+pub returns-clause-without : goal.returns-clause-without
+returns-clause-without g c =
+    let at = g.N.Nodes.at c.args.graph.now.nodes in
+    λ x. without_yet at (overwritten c.args.edit.now at) (overwritten c.relink.new.edit at) c.args.orphan.layer x _ c.in_ok-relink.ensures.joined

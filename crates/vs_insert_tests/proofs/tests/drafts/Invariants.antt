@@ -1,5 +1,0 @@
-use Rattle.vs_insert_tests.proofs.tests.drafts.Given as goal
-
--- the counter's own ledger, in one part
-abbrev pub ghosts-drafts_by : goal.ghosts-drafts_by
-ghosts-drafts_by a = record { name = a.blank.name; parts = a.blank.parts }
