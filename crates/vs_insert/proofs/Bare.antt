@@ -1,49 +1,19 @@
 -- What is the same of two maps of nodes that differ in links alone.
-use Rattle.std.proofs.Common.{◌≡◌, ℕ, zero, suc, ◌≤◌, List, [], ◌∷◌, length, map, refl, sym, ap, ◌∙◌, subst}
-use Rattle.std.specs.Prelude.{Some, None, is_some, IsSomeAnd, option_map, slice_set}
+use Rattle.std.proofs.Common.{◌≡◌, ℕ, ◌≤◌, List, [], ◌∷◌, length, map, refl, sym, ap, ◌∙◌, subst}
+use Rattle.std.specs.Prelude.{Some, None, is_some, IsSomeAnd, option_map}
 use Rattle.std.specs.Option.{option_map_or}
 use Rattle.std.specs.declared.option.Option.{Option}
 use Rattle.std.proofs.Math.Path.{fun_ext}
-use Rattle.std.proofs.lemmas.List.{length-map}
-use Rattle.vs_defs.specs.Store.{Member}
 use Rattle.vs_graph.specs.declared.node.Node.{Node}
 use Rattle.vs_graph.specs.Good.{body_at, layers_at, StandsAt}
-use Rattle.vs_graph.specs.Relinks.{cleared, Relinks}
-use Rattle.vs_graph.specs.Standing.{AreIds, member_of_node, member_at, members_of, name_of}
-use Rattle.vs_graph.specs.Table.{Table}
+use Rattle.vs_graph.specs.Standing.{AreIds, member_at, members_of, name_of}
 use Rattle.vs_unlink.specs.Unlinked.{bare}
+use Rattle.vs_unlink.proofs.Layers.{body_bare, layers_bare}
+use Rattle.vs_unlink.proofs.Leavings.{same_member_by}
 
-emptied : (xs : List (List ℕ)) (i : ℕ) → map {A = List ℕ} {B = List ℕ} (λ list. []) (slice_set xs i []) ≡ map (λ list. []) xs
-emptied [] i = refl
-emptied (x ∷ xs) zero = refl
-emptied (x ∷ xs) (suc i) = ap (λ l. [] ∷ l) (emptied xs i)
-
-bare_cleared : (layer : ℕ) (o : Option Node) → bare (cleared layer o) ≡ bare o
-bare_cleared layer None = refl
-bare_cleared layer (Some node) = ap (λ links. Some (record node { links = links })) (emptied node.links layer)
-
--- after a change of the links at one layer
-pub bare_kept : (at new : ℕ → Option Node) (layer : ℕ) (t : Table) → Relinks at new layer t → (id : ℕ) → bare (new id) ≡ bare (at id)
-bare_kept at new layer t r id = sym (bare_cleared layer (new id)) ∙ ap bare (r.rest id) ∙ bare_cleared layer (at id)
-
-body_bare : (o : Option Node) → option_map (λ node. node.body) (bare o) ≡ option_map (λ node. node.body) o
-body_bare None = refl
-body_bare (Some node) = refl
-
-layers_bare : (o : Option Node) → option_map_or (λ node. length node.links) (bare o) 0 ≡ option_map_or (λ node. length node.links) o 0
-layers_bare None = refl
-layers_bare (Some node) = length-map node.links (λ list. [])
-
-live_bare : (o : Option Node) → is_some (bare o) ≡ is_some o
+pub live_bare : (o : Option Node) → is_some (bare o) ≡ is_some o
 live_bare None = refl
 live_bare (Some node) = refl
-
-abbrev pub no_member : Member
-no_member = record { name = []; bits = []; attr = None; level = 0 }
-
-member_bare : (dim : ℕ) (o : Option Node) → option_map_or (member_of_node dim) (bare o) no_member ≡ option_map_or (member_of_node dim) o no_member
-member_bare dim None = refl
-member_bare dim (Some node) = refl
 
 bare_stands : (layer : ℕ) (o : Option Node) → IsSomeAnd o (λ node. layer ≤ node.level) → IsSomeAnd (bare o) (λ node. layer ≤ node.level)
 bare_stands layer None h = h
@@ -56,10 +26,6 @@ stands_bare layer (Some node) h = h
 map_same : {X Y : Type 0} (f g : X → Y) (xs : List X) → ((x : X) → f x ≡ g x) → map f xs ≡ map g xs
 map_same f g [] h = refl
 map_same f g (x ∷ xs) h = ap (λ y. y ∷ map f xs) (h x) ∙ ap (λ l. g x ∷ l) (map_same f g xs h)
-
--- a member is the same where the nodes are but for links
-pub same_member_by : (one other : Option Node) (dim : ℕ) → bare one ≡ bare other → option_map_or (member_of_node dim) one no_member ≡ option_map_or (member_of_node dim) other no_member
-same_member_by one other dim e = sym (member_bare dim one) ∙ ap (λ o. option_map_or (member_of_node dim) o no_member) e ∙ member_bare dim other
 
 module _ (at new : ℕ → Option Node) (rest : (id : ℕ) → bare (new id) ≡ bare (at id)) where
   pub bodies_same : body_at new ≡ body_at at

@@ -1,5 +1,5 @@
 -- A new member that is joined at each of its layers is linked, by names, as the definitions say.
-use Rattle.std.proofs.Common.{◌≡◌, ◌≢◌, ◌⊎◌, ℕ, zero, suc, ◌+◌, ◌≤◌, Bool, true, false, cond, eqb, ◌||◌, List, [], ◌∷◌, ◌++◌, length, map, add-one, refl, sym, ap, ◌∙◌, arith, inl, inr}
+use Rattle.std.proofs.Common.{◌≡◌, ◌≢◌, ◌⊎◌, ℕ, zero, suc, ◌+◌, ◌≤◌, Bool, true, false, cond, eqb, ◌||◌, List, [], ◌∷◌, ◌++◌, length, add-one, refl, sym, ap, ◌∙◌, arith, inl, inr}
 use Rattle.std.specs.Prelude.{Some, None, IsSome, is_some, IsSomeAnd, IfSome, nat_eq, nat_lt, nat_le, option_map, unwrap_or}
 use Rattle.std.specs.List.{list_any}
 use Rattle.std.specs.Option.{option_map_or}
@@ -23,7 +23,7 @@ use Rattle.vs_graph.proofs.Goods.{contains_from}
 use Rattle.vs_graph.proofs.Lists.{not_true, has_push, distinct_push, or_false}
 use Rattle.vs_graph.proofs.Newcomers.{same_links}
 use Rattle.vs_graph.proofs.Naming.{names_fixed}
-use Rattle.vs_graph.proofs.Sorts.{In, test_from_in}
+use Rattle.vs_graph.proofs.Sorts.{test_from_in}
 use Rattle.vs_graph.proofs.Standing.{member_there, are_named}
 use Rattle.vs_beam.specs.Beam.{level_at}
 use Rattle.vs_unlink.specs.Unlinked.{bare}
@@ -31,7 +31,8 @@ use Rattle.vs_insert.specs.declared.draft.Chosen.{Chosen}
 use Rattle.vs_insert.specs.Drafts.{names_down}
 use Rattle.vs_insert.specs.Joined.{layers_below, IsJoinedFrom}
 use Rattle.vs_insert.specs.Added.{entry_after}
-use Rattle.vs_insert.proofs.Bare.{names_same, members_same, same_member_by, ids_on, ids_back}
+use Rattle.vs_unlink.proofs.Leavings.{map_same_in, same_member_by}
+use Rattle.vs_insert.proofs.Bare.{names_same, members_same, ids_on, ids_back}
 use Rattle.vs_insert.proofs.Adding.{none_stands, mid_good}
 use Rattle.vs_insert.proofs.Stepping.{links_ext}
 
@@ -50,10 +51,6 @@ live_name (Some n) name h apart e = apart e
 pub level_of_member : (dim : ℕ) (o : Option Node) → (option_map_or (member_of_node dim) o (record { name = []; bits = []; attr = None; level = 0 })).level ≡ option_map_or (λ n. n.level) o 0
 level_of_member dim None = refl
 level_of_member dim (Some n) = refl
-
-pub map_same_in : {X Y : Type 0} (f g : X → Y) (xs : List X) → ((x : X) → In x xs → f x ≡ g x) → map f xs ≡ map g xs
-map_same_in f g [] h = refl
-map_same_in f g (x ∷ xs) h = ap (λ y. y ∷ map f xs) (h x (inl refl)) ∙ ap (λ l. g x ∷ l) (map_same_in f g xs (λ y k. h y (inr k)))
 
 module _ (at mid : ℕ → Option Node) (entry : Option ℕ) (m dim id : ℕ) (node : Node) (good : IsGood at entry m dim) (newcomer : IsNewcomer at id node) (change : ChangesAt at mid id (Some node)) (fits : FitsDimension dim node.body.bits) where
   before : AreLinksGood mid m dim

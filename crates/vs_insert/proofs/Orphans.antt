@@ -1,5 +1,5 @@
 -- Whom an orphan may be joined to: what a beam in the graph before the removal found has others than the two.
-use Rattle.std.proofs.Common.{◌≡◌, ◌≢◌, ◌⊎◌, ℕ, zero, suc, ◌+◌, ◌<◌, ◌≤◌, Bool, true, false, not, ◌&&◌, ◌||◌, cond, eqb, List, [], ◌∷◌, length, map, refl, sym, ap, ◌∙◌, subst, arith, inl, inr, length-take}
+use Rattle.std.proofs.Common.{◌≡◌, ◌≢◌, ◌⊎◌, ℕ, zero, suc, ◌+◌, ◌<◌, ◌≤◌, Bool, true, false, not, ◌&&◌, ◌||◌, eqb, List, [], ◌∷◌, length, map, refl, sym, ap, ◌∙◌, subst, arith, inl, inr, length-take}
 use Rattle.std.specs.Prelude.{Some, None, IsSome, is_some, IsSomeAnd, IfSome, nat_eq, nat_lt, filter, All, Contains}
 use Rattle.std.specs.List.{list_any, IsDistinct}
 use Rattle.std.specs.Ordering.{ordering_then, is_gt}
@@ -8,9 +8,8 @@ use Rattle.std.specs.declared.cmp.Ordering.TheVariants.{Less, Equal, Greater}
 use Rattle.std.specs.declared.option.Option.{Option}
 use Rattle.std.proofs.lemmas.Bool.{cases_eq, cases_lt, both_ways, not-true, cond-true, and_parts, and_from, lt-ltb, ne_eqb, eqb-false, eq-eqb}
 use Rattle.std.proofs.lemmas.List.{take_all}
-use Rattle.std.proofs.lemmas.List.Elements.{All-from_recursion, recursion_from_All, All-filter}
 use Rattle.std.proofs.lemmas.List.Sorted.{Contains-permutation}
-use Rattle.std.proofs.lemmas.Map.Keys.{IsDistinct-head, IsDistinct-tail, IsDistinct-cons, le_from_not_gt}
+use Rattle.std.proofs.lemmas.Map.Keys.{IsDistinct-tail, le_from_not_gt}
 use Rattle.vs_graph.specs.declared.node.Node.{Node}
 use Rattle.vs_graph.specs.declared.edit.Edit.{Edit}
 use Rattle.vs_graph.specs.Edits.{overwritten}
@@ -31,19 +30,11 @@ use Rattle.vs_unlink.specs.Unlinked.{bare}
 use Rattle.vs_insert.specs.Choosing.{everyone}
 use Rattle.vs_insert.specs.Height.{height}
 use Rattle.vs_insert.specs.Rejoined.{IsWithout, HasAnother, others_of, IsStart, IsOrphansChoice, IsRejoined}
+use Rattle.vs_unlink.proofs.Reordered.{distinct_filter}
+use Rattle.vs_insert.proofs.Bare.{live_bare}
 use Rattle.vs_insert.proofs.Found.{found_is, found_stand, found_once, ranked_ids, ranked_long}
 
 -- ---- lists
-
-distinct_by : (p : ℕ → Bool) (x : ℕ) (xs : List ℕ) (b : Bool) → IsDistinct nat_eq (x ∷ xs) → IsDistinct nat_eq (filter p xs) → IsDistinct nat_eq (cond b (x ∷ filter p xs) (filter p xs))
-distinct_by p x xs false d rest = rest
-distinct_by p x xs true d rest =
-    IsDistinct-cons nat_eq x (filter p xs)
-    (recursion_from_All (λ y. nat_eq x y ≡ false) (filter p xs) (All-filter p (λ y. nat_eq x y ≡ false) xs (All-from_recursion (λ y. nat_eq x y ≡ false) xs (IsDistinct-head nat_eq x xs d)))) rest
-
-distinct_filter : (p : ℕ → Bool) (xs : List ℕ) → IsDistinct nat_eq xs → IsDistinct nat_eq (filter p xs)
-distinct_filter p [] d = d
-distinct_filter p (x ∷ xs) d = distinct_by p x xs (p x) d (distinct_filter p xs (IsDistinct-tail nat_eq x xs d))
 
 some_in : (z : Key) (keys : List Key) → In z keys → 0 < length keys
 some_in z [] h = absurd h
@@ -93,10 +84,6 @@ one_of_three p x y (a ∷ b ∷ c ∷ keys) only d long = by_tests (p a) (p b) (
   by_tests false true w e f g = (b, inr (inl refl), f)
   by_tests false false true e f g = (c, inr (inr (inl refl)), g)
   by_tests false false false e f g = absurd (none (only a (inl refl) e) (only b (inr (inl refl)) f) (only c (inr (inr (inl refl))) g))
-
-live_bare : (o : Option Node) → is_some (bare o) ≡ is_some o
-live_bare None = refl
-live_bare (Some n) = refl
 
 bare_stands : (layer : ℕ) (o : Option Node) → IsSomeAnd o (λ node. layer ≤ node.level) → IsSomeAnd (bare o) (λ node. layer ≤ node.level)
 bare_stands layer None h = h

@@ -13,9 +13,9 @@ use Rattle.vs_defs.specs.Insertion.{SameLinks, pass_all}
 use Rattle.vs_defs.specs.Removal as rules
 use Rattle.vs_defs.specs.Beam as beams
 use Rattle.vs_defs.specs.Vector.{ham}
-use Rattle.vs_unlink.specs.Unlinked.{bare}
 use Rattle.vs_insert.proofs.Adding.{some_of}
-use Rattle.vs_insert.proofs.Named.{map_same_in}
+use Rattle.vs_unlink.proofs.Leavings.{map_same_in}
+use Rattle.vs_unlink.proofs.Layers.{body_bare}
 use Rattle.vs_graph.specs.declared.node.Node.{Node}
 use Rattle.vs_graph.specs.Good.{body_at, layers_at, links_at, StandsAt, IsGoodNode, AreLinksGood, IsEntry, IsGood}
 use Rattle.vs_graph.specs.Bodies.{words_at}
@@ -92,10 +92,6 @@ module _ (at now new : ℕ → Option Node) (top : Option ℕ) (m dim entry laye
       ∙ sym (filter_of_map (λ (key : Key). name_of at key.id) (λ z. not (same_name (name_of at x) z) && not (same_name (name_of at y) z)) made.choice.found)
 
   -- ---- the query
-
-  body_bare : (o : Option Node) → option_map (λ n. n.body) (bare o) ≡ option_map (λ n. n.body) o
-  body_bare None = refl
-  body_bare (Some n) = refl
 
   words_kept : words_at (body_at now) y ≡ words_at (body_at at) y
   words_kept = ap (λ o. option_map_or (λ body. body.bits) o []) (sym (body_bare (now y)) ∙ ap (option_map (λ n. n.body)) (gone.others y y_not_x) ∙ body_bare (at y))

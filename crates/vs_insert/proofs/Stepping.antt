@@ -24,7 +24,8 @@ use Rattle.vs_graph.proofs.Standing.{member_name}
 use Rattle.vs_insert.specs.declared.draft.Chosen.{Chosen}
 use Rattle.vs_insert.specs.Drafts.{ids_of, names_of, chosen_at, names_down}
 use Rattle.vs_insert.specs.Joined.{layers_below, IsLayerJoined, IsJoinedFrom}
-use Rattle.vs_insert.proofs.Bare.{bare_kept, names_same, members_same, ids_on, stands_on}
+use Rattle.vs_unlink.proofs.Layers.{bare_kept}
+use Rattle.vs_insert.proofs.Bare.{names_same, members_same, ids_on, stands_on}
 
 -- ---- lists from the highest layer down
 

@@ -34,7 +34,7 @@ bare_cleared : (layer : ℕ) (o : Option Node) → bare (cleared layer o) ≡ ba
 bare_cleared layer None = refl
 bare_cleared layer (Some node) = ap (λ links. Some (record node { links = links })) (emptied node.links layer)
 
-bare_kept : (at new : ℕ → Option Node) (layer : ℕ) (t : Table) → Relinks at new layer t → (id : ℕ) → bare (new id) ≡ bare (at id)
+pub bare_kept : (at new : ℕ → Option Node) (layer : ℕ) (t : Table) → Relinks at new layer t → (id : ℕ) → bare (new id) ≡ bare (at id)
 bare_kept at new layer t r id = sym (bare_cleared layer (new id)) ∙ ap bare (r.rest id) ∙ bare_cleared layer (at id)
 
 pub body_bare : (o : Option Node) → option_map (λ node. node.body) (bare o) ≡ option_map (λ node. node.body) o
