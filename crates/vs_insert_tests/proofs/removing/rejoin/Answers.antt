@@ -33,4 +33,4 @@ relink-requires-clause-another g c =
 pub returns-clause-without : goal.returns-clause-without
 returns-clause-without g c =
     let at = g.N.Nodes.at c.args.graph.now.nodes in
-    λ x. without_yet at (overwritten c.args.edit.now at) (overwritten c.relink.new.edit at) c.args.orphan.layer x _ c.in_ok-relink.ensures.joined
+    λ x. without_yet at (overwritten c.args.edit.now at) (overwritten c.relink.new.edit at) c.args.orphan.layer x _ c.in_ok-relink.ensures.joined.joined
