@@ -4,12 +4,13 @@ use Rattle.std.specs.Prelude.{Contains}
 use Rattle.std.proofs.lemmas.Bool.{cases_eq, both_ways}
 use Rattle.std.proofs.lemmas.List.{map-append}
 use Rattle.std.proofs.lemmas.List.Elements.{Contains-append_left, Contains-append_right}
-use Rattle.vs_graph.specs.Table.{Table, is_in}
+use Rattle.std.specs.declared.option.Option.{Option}
+use Rattle.vs_graph.specs.declared.node.Node.{Node}
 use Rattle.vs_unlink.specs.declared.Pair.{Pair}
 use Rattle.vs_unlink.specs.declared.pairs.Candidate.{Candidate}
-use Rattle.vs_unlink.specs.Candidates.{pair_at, HasPairsOf, HasPairsBelow}
+use Rattle.vs_unlink.specs.Candidates.{pair_at, has_link, HasPlacedOf, HasPlacedBelow}
 
-module _ (t : Table) (ranked : List ℕ) (found : List Candidate) (c : Candidate) where
+module _ (places : ℕ → Option Node) (layer : ℕ) (ranked : List ℕ) (found : List Candidate) (c : Candidate) where
   abbrev pairs : List Pair
   pairs = map (pair_at ranked) found
 
@@ -19,29 +20,29 @@ module _ (t : Table) (ranked : List ℕ) (found : List Candidate) (c : Candidate
   still : (p : Pair) → Contains pairs p → Contains (map (pair_at ranked) (found ++ c ∷ [])) p
   still p h = subst (λ l. Contains l p) (sym more) (Contains-append_left pairs (pair_at ranked c ∷ []) p h)
 
-  pub below_still : (one : ℕ) → HasPairsBelow t ranked one pairs → HasPairsBelow t ranked one (map (pair_at ranked) (found ++ c ∷ []))
+  pub below_still : (one : ℕ) → HasPlacedBelow places layer ranked one pairs → HasPlacedBelow places layer ranked one (map (pair_at ranked) (found ++ c ∷ []))
   below_still one h a low b less within unlinked = still (record { one = get_or ranked a 0; other = get_or ranked b 0 }) (h a low b less within unlinked)
 
   newest : Contains (map (pair_at ranked) (found ++ c ∷ [])) (pair_at ranked c)
   newest = subst (λ l. Contains l (pair_at ranked c)) (sym more) (Contains-append_right pairs (pair_at ranked c ∷ []) (pair_at ranked c) (0, omega arith, refl))
 
   -- with the candidate of the two places
-  pub here_more : HasPairsOf t ranked c.one c.other pairs → HasPairsOf t ranked c.one (c.other + 1) (map (pair_at ranked) (found ++ c ∷ []))
+  pub here_more : HasPlacedOf places layer ranked c.one c.other pairs → HasPlacedOf places layer ranked c.one (c.other + 1) (map (pair_at ranked) (found ++ c ∷ []))
   here_more h b less within unlinked = elim (cases_eq b c.other) [
     | inl is ↦ subst (λ k. Contains (map (pair_at ranked) (found ++ c ∷ [])) (record { one = get_or ranked c.one 0; other = get_or ranked k 0 })) (sym is) newest
     | inr ne ↦ still (record { one = get_or ranked c.one 0; other = get_or ranked b 0 }) (h b less (omega arith) unlinked)
   ]
 
 -- two that are linked are no pair
-pub here_linked : (t : Table) (ranked : List ℕ) (one other : ℕ) (pairs : List Pair) → is_in t (get_or ranked one 0) (get_or ranked other 0) ≡ true → HasPairsOf t ranked one other pairs → HasPairsOf t ranked one (other + 1) pairs
-here_linked t ranked one other pairs linked h b less within unlinked = elim (cases_eq b other) [
-  | inl is ↦ absurd (both_ways (is_in t (get_or ranked one 0) (get_or ranked b 0)) unlinked (ap (λ k. is_in t (get_or ranked one 0) (get_or ranked k 0)) is ∙ linked))
+pub here_linked : (places : ℕ → Option Node) (layer : ℕ) (ranked : List ℕ) (one other : ℕ) (pairs : List Pair) → has_link places layer ranked one other ≡ true → HasPlacedOf places layer ranked one other pairs → HasPlacedOf places layer ranked one (other + 1) pairs
+here_linked places layer ranked one other pairs linked h b less within unlinked = elim (cases_eq b other) [
+  | inl is ↦ absurd (both_ways (has_link places layer ranked one b) unlinked (ap (has_link places layer ranked one) is ∙ linked))
   | inr ne ↦ h b less (omega arith) unlinked
 ]
 
 -- a place with all later ones
-pub below_more : (t : Table) (ranked : List ℕ) (one : ℕ) (pairs : List Pair) → HasPairsBelow t ranked one pairs → HasPairsOf t ranked one (length ranked) pairs → HasPairsBelow t ranked (one + 1) pairs
-below_more t ranked one pairs below here a low = elim (cases_eq a one) [
-  | inl is ↦ subst (λ k. HasPairsOf t ranked k (length ranked) pairs) (sym is) here
+pub below_more : (places : ℕ → Option Node) (layer : ℕ) (ranked : List ℕ) (one : ℕ) (pairs : List Pair) → HasPlacedBelow places layer ranked one pairs → HasPlacedOf places layer ranked one (length ranked) pairs → HasPlacedBelow places layer ranked (one + 1) pairs
+below_more places layer ranked one pairs below here a low = elim (cases_eq a one) [
+  | inl is ↦ subst (λ k. HasPlacedOf places layer ranked k (length ranked) pairs) (sym is) here
   | inr ne ↦ below a (omega arith)
 ]

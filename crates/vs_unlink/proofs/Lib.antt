@@ -4,6 +4,7 @@ pub mod ByName
 pub mod Ranked
 pub mod Marks
 pub mod Found
+pub mod Places
 pub mod Pairing
 pub mod Detached
 pub mod Paired

@@ -1,10 +1,10 @@
-ghost use Rattle.std.specs.Prelude.{◌≡◌, ◌<◌, ◌+◌, ◌||◌, IsSome, IfOk, OnOk, length, All, map, nat_eq, false, slice_index_or};
+ghost use Rattle.std.specs.Prelude.{◌≡◌, ◌<◌, ◌+◌, ◌||◌, IsSome, IfOk, OnOk, length, All, map, nat_eq, false, slice_index_or, Some};
 ghost use Rattle.std.specs.List.{list_any, IsDistinct};
 ghost use Rattle.vs_graph.specs.Edits.{overwritten};
 ghost use Rattle.vs_graph.specs.Good.{links_at, links_of, body_at};
 ghost use Rattle.vs_graph.specs.Bodies.{AreAlike};
 ghost use Rattle.vs_unlink.specs.Pairs.{matched, Differ, IsPairing};
-ghost use Rattle.vs_unlink.specs.Candidates.{pair_at, IsCandidate, IsWithin, HasPairsBelow};
+ghost use Rattle.vs_unlink.specs.Candidates.{some_now, node_in, pair_at, IsCandidate, IsPlaced, IsWithin, HasPairsBelow, HasPlacedBelow};
 
 use crate::Pair;
 use crate::named::by_name;
@@ -23,6 +23,31 @@ pub(crate) struct Candidate {
     pub(crate) other: usize,
 }
 
+/// The nodes of members, in the same order.
+fn nodes_of<'a, N: Nodes, L: Ledger>(
+    alloc: Global,
+    edit: &'a Edit,
+    base: &'a N,
+    ids: &[u32],
+    reads: &mut Steps<L>,
+) -> Result<Vec<&'a Node>, NoMemory>
+    requires { All (λ id. IsSome (overwritten edit.now (N.at base.now) id)) ids.now }
+    ensures { IfOk result (λ nodes. map some_now nodes.items ≡ map (overwritten edit.entry.now (N.at base.entry.now)) ids.now) }
+{
+    let mut nodes = Vec::with_capacity(alloc, ids.len())?;
+    for id in ids {
+        nodes.push(live_node(edit, base, *id, reads))?;
+    }
+    Ok(nodes)
+}
+
+fn node_at<'a>(nodes: &[&'a Node], place: usize) -> &'a Node
+    requires { place < length nodes.now }
+    ensures { node_in nodes.now place ≡ Some result.now }
+{
+    nodes[place]
+}
+
 fn is_linked(node: &Node, layer: u8, id: u32) -> bool
     ensures { result ≡ list_any (nat_eq id) (links_of node.now layer) }
 {
@@ -30,33 +55,50 @@ fn is_linked(node: &Node, layer: u8, id: u32) -> bool
 }
 
 /// Puts the unlinked pairs of the former neighbour at a place with those behind it last.
-fn pair_with_later<N: Nodes, L: Ledger>(
+fn pair_with_later(
     found: &mut Vec<Candidate>,
-    edit: &Edit,
-    base: &N,
+    nodes: &[&Node],
     ranked: &[u32],
     one: usize,
     layer: u8,
-    reads: &mut Steps<L>,
 ) -> Result<(), NoMemory>
-    requires alike { AreAlike (body_at (overwritten edit.now (N.at base.now))) }
-    requires live { All (λ id. IsSome (overwritten edit.now (N.at base.now) id)) ranked.now }
+    requires alike { AreAlike (body_at (node_in nodes.now)) }
+    requires long { length nodes.now ≡ length ranked.now }
     requires within { one < length ranked.now }
-    requires sound { All (IsCandidate (body_at (overwritten edit.now (N.at base.now))) (links_at (overwritten edit.now (N.at base.now)) layer) ranked.now) found.old.items }
-    requires all { HasPairsBelow (links_at (overwritten edit.now (N.at base.now)) layer) ranked.now one (map (pair_at ranked.now) found.old.items) }
-    ensures sound { OnOk result (All (IsCandidate (body_at (overwritten edit.now (N.at base.now))) (links_at (overwritten edit.now (N.at base.now)) layer) ranked.now) found.new.items) }
-    ensures all { OnOk result (HasPairsBelow (links_at (overwritten edit.now (N.at base.now)) layer) ranked.now (one + 1) (map (pair_at ranked.now) found.new.items)) }
+    requires sound { All (IsPlaced (node_in nodes.now) layer ranked.now) found.old.items }
+    requires all { HasPlacedBelow (node_in nodes.now) layer ranked.now one (map (pair_at ranked.now) found.old.items) }
+    ensures sound { OnOk result (All (IsPlaced (node_in nodes.now) layer ranked.now) found.new.items) }
+    ensures all { OnOk result (HasPlacedBelow (node_in nodes.now) layer ranked.now (one + 1) (map (pair_at ranked.now) found.new.items)) }
 {
-    let a = live_node(edit, base, ranked[one], reads);
+    let a = node_at(nodes, one);
     for other in one + 1..ranked.len() {
         if is_linked(a, layer, ranked[other]) {
             continue;
         }
-        let b = live_node(edit, base, ranked[other], reads);
+        let b = node_at(nodes, other);
         let dist = distance(a.body.get().bits.as_slice(), b.body.get().bits.as_slice());
         found.push(Candidate { dist, one, other })?;
     }
     Ok(())
+}
+
+/// The unlinked pairs of members that stand in the order of names, by their nodes.
+fn placed(
+    alloc: Global,
+    nodes: &[&Node],
+    ranked: &[u32],
+    layer: u8,
+) -> Result<Vec<Candidate>, NoMemory>
+    requires alike { AreAlike (body_at (node_in nodes.now)) }
+    requires long { length nodes.now ≡ length ranked.now }
+    ensures sound { IfOk result (λ found. All (IsPlaced (node_in nodes.now) layer ranked.now) found.items) }
+    ensures all { IfOk result (λ found. HasPlacedBelow (node_in nodes.now) layer ranked.now (length ranked.now) (map (pair_at ranked.now) found.items)) }
+{
+    let mut found = Vec::new(alloc);
+    for one in 0..ranked.len() {
+        pair_with_later(&mut found, nodes, ranked, one, layer)?;
+    }
+    Ok(found)
 }
 
 /// The unlinked pairs of former neighbours, which stand in the order of names.
@@ -73,11 +115,8 @@ fn candidates<N: Nodes, L: Ledger>(
     ensures sound { IfOk result (λ found. All (IsCandidate (body_at (overwritten edit.now (N.at base.now))) (links_at (overwritten edit.now (N.at base.now)) layer) ranked.now) found.items) }
     ensures all { IfOk result (λ found. HasPairsBelow (links_at (overwritten edit.now (N.at base.now)) layer) ranked.now (length ranked.now) (map (pair_at ranked.now) found.items)) }
 {
-    let mut found = Vec::new(alloc);
-    for one in 0..ranked.len() {
-        pair_with_later(&mut found, edit, base, ranked, one, layer, reads)?;
-    }
-    Ok(found)
+    let nodes = nodes_of(alloc, edit, base, ranked, reads)?;
+    placed(alloc, &nodes, ranked, layer)
 }
 
 /// Whether one of a candidate's members has a new link, by the marks at their places.
