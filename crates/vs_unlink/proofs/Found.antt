@@ -1,5 +1,5 @@
 -- One more pair of former neighbours is looked at.
-use Rattle.std.proofs.Common.{◌≡◌, ℕ, ◌+◌, true, List, [], ◌∷◌, ◌++◌, length, get_or, map, refl, sym, ap, ◌∙◌, subst, arith, inl, inr}
+use Rattle.std.proofs.Common.{◌≡◌, ℕ, ◌+◌, true, List, [], ◌∷◌, ◌++◌, get_or, map, refl, sym, ap, ◌∙◌, subst, arith, inl, inr}
 use Rattle.std.specs.Prelude.{Contains}
 use Rattle.std.proofs.lemmas.Bool.{cases_eq, both_ways}
 use Rattle.std.proofs.lemmas.List.{map-append}
@@ -38,11 +38,4 @@ pub here_linked : (places : ℕ → Option Node) (layer : ℕ) (ranked : List �
 here_linked places layer ranked one other pairs linked h b less within unlinked = elim (cases_eq b other) [
   | inl is ↦ absurd (both_ways (has_link places layer ranked one b) unlinked (ap (has_link places layer ranked one) is ∙ linked))
   | inr ne ↦ h b less (omega arith) unlinked
-]
-
--- a place with all later ones
-pub below_more : (places : ℕ → Option Node) (layer : ℕ) (ranked : List ℕ) (one : ℕ) (pairs : List Pair) → HasPlacedBelow places layer ranked one pairs → HasPlacedOf places layer ranked one (length ranked) pairs → HasPlacedBelow places layer ranked (one + 1) pairs
-below_more places layer ranked one pairs below here a low = elim (cases_eq a one) [
-  | inl is ↦ subst (λ k. HasPlacedOf places layer ranked k (length ranked) pairs) (sym is) here
-  | inr ne ↦ below a (omega arith)
 ]

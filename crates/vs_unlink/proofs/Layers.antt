@@ -11,12 +11,12 @@ use Rattle.std.proofs.lemmas.Option.{slice_get_past}
 use Rattle.vs_graph.specs.declared.node.Node.{Node}
 use Rattle.vs_graph.specs.declared.edit.Edit.{Edit}
 use Rattle.vs_graph.specs.Edits.{overwritten, SaysAt}
-use Rattle.vs_graph.specs.Good.{links_at, links_of, IsLinked, StandsAt, IsGoodNode, AreLinksGood}
+use Rattle.vs_graph.specs.Good.{links_at, links_of, IsLinked, IsGoodNode, AreLinksGood}
 use Rattle.vs_graph.specs.Good.{body_at}
 use Rattle.vs_graph.specs.Table.{Table}
 use Rattle.vs_graph.specs.Good.{layers_at}
 use Rattle.vs_graph.specs.Relinks.{cleared, Relinks}
-use Rattle.vs_graph.proofs.Goods.{links_elsewhere, level_from, contains_from}
+use Rattle.vs_graph.proofs.Goods.{links_elsewhere, contains_from}
 use Rattle.vs_graph.specs.Table.{joined}
 use Rattle.vs_unlink.specs.declared.Pair.{Pair}
 use Rattle.vs_unlink.specs.Pairs.{has, detached, paired, IsPairing}
@@ -60,10 +60,6 @@ out_none at x = record {
   rest = λ id. refl;
   good = λ m dim g. g;
 }
-
--- x stands at a layer of its own also now
-pub out_stands : (at now : ℕ → Option Node) (x n : ℕ) → IsOutBelow at now x n → (m dim : ℕ) → AreLinksGood at m dim → n < layers_at at x → StandsAt now n x
-out_stands at now x n out m dim good h = level_from m dim n (now x) ((out.good m dim good).nodes x) (subst (λ k. n < k) (sym (layers_by at now out.rest x)) h)
 
 abbrev pub Step : (ℕ → Option Node) → (ℕ → Option Node) → ℕ → ℕ → Type 0
 Step now new x n = (added : List Pair) × IsPairing (body_at now) (detached (links_at now n) x) (links_at now n x) added × Relinks now new n (paired (detached (links_at now n) x) added)

@@ -1,10 +1,10 @@
 -- Marks of those that are in a taken pair.
-use Rattle.std.proofs.Common.{◌≡◌, ◌≢◌, ℕ, zero, suc, ◌<◌, Bool, true, false, ◌||◌, ltb, List, [], ◌∷◌, ◌++◌, length, get_or, refl, sym, ap, ◌∙◌, arith, inl, inr}
+use Rattle.std.proofs.Common.{◌≡◌, ◌≢◌, ℕ, ◌<◌, Bool, true, false, ◌||◌, ltb, List, [], ◌∷◌, ◌++◌, length, get_or, refl, sym, ap, ◌∙◌, arith, inl, inr}
 use Rattle.std.proofs.Math.ListN.{set}
-use Rattle.std.specs.Prelude.{nat_eq, replicate}
+use Rattle.std.specs.Prelude.{nat_eq}
 use Rattle.std.specs.List.{list_any, IsDistinct}
 use Rattle.std.proofs.lemmas.Bool.{cases_eq, eq-eqb, ne_eqb, or_from, ltb-true, ltb-false}
-use Rattle.std.proofs.lemmas.List.{get_or-set_same, get_or-set_other, length-set, length-replicate}
+use Rattle.std.proofs.lemmas.List.{get_or-set_same, get_or-set_other, length-set}
 use Rattle.std.proofs.lemmas.List.Folds.{list_any-append}
 use Rattle.vs_graph.proofs.Lists.{or_false}
 use Rattle.vs_unlink.specs.declared.Pair.{Pair}
@@ -82,11 +82,3 @@ module _ (ranked : List ℕ) (once : IsDistinct nat_eq ranked) (marks : List Boo
 pub marked_shares : (ranked : List ℕ) (marks : List Bool) (added : List Pair) (c : Candidate) → AreMarks ranked marks added → IsWithin ranked c
     → (get_or marks c.one false || get_or marks c.other false) ≡ list_any (λ q. share q (pair_at ranked c)) added
 marked_shares ranked marks added c m within = (λ i. m.each c.one within.one i || m.each c.other within.other i) ∙ sym (shares_by added (pair_at ranked c))
-
--- nobody is marked at first
-pub no_marks : (ranked : List ℕ) (marks : List Bool) → marks ≡ replicate (length ranked) false → AreMarks ranked marks []
-no_marks ranked marks e = record { long = ap length e ∙ length-replicate (length ranked) false; each = λ k h. ap (λ l. get_or l k false) e ∙ all_false (length ranked) k } where
-  all_false : (n k : ℕ) → get_or (replicate n false) k false ≡ false
-  all_false zero k = refl
-  all_false (suc n) zero = refl
-  all_false (suc n) (suc k) = all_false n k
