@@ -1,19 +1,18 @@
 -- The highest of the members but one, by ids and by names.
-use Rattle.std.proofs.Common.{◌≡◌, ◌≢◌, ◌⊎◌, ℕ, ◌+◌, ◌<◌, Bool, true, false, not, List, [], ◌∷◌, refl, sym, ap, ◌∙◌, subst, arith, inl, inr}
-use Rattle.std.specs.Prelude.{Some, None, IsSome, IsSomeAnd, IfSome, find, filter, option_map}
+use Rattle.std.proofs.Common.{◌≡◌, ◌≢◌, ◌⊎◌, ℕ, ◌+◌, ◌<◌, true, false, not, eqb, List, [], ◌∷◌, refl, sym, ap, ◌∙◌, subst, arith, inl, inr}
+use Rattle.std.specs.Prelude.{Some, None, IsSome, is_some, IsSomeAnd, IfSome, find, option_map}
 use Rattle.std.specs.Option.{option_map_or}
 use Rattle.std.specs.Ordering.{ordering_then, is_lt, is_gt}
 use Rattle.std.specs.Cmp.{IsTotalOrder}
 use Rattle.std.specs.declared.cmp.Ordering.{Ordering}
 use Rattle.std.specs.declared.cmp.Ordering.TheVariants.{Less, Equal, Greater}
 use Rattle.std.specs.declared.option.Option.{Option}
-use Rattle.std.proofs.lemmas.Bool.{cases_eq, both_ways, not_from_false, not-true}
+use Rattle.std.proofs.lemmas.Bool.{cases_eq, both_ways, eqb-false, ne_eqb, not_from_false, not-true}
 use Rattle.std.proofs.lemmas.Option.{same_Some}
 use Rattle.std.proofs.lemmas.Cmp.{nat_cmp_total, nat_list_cmp_total, then_total, on_total, back_total, upto}
 use Rattle.std.proofs.lemmas.Map.Lookups.{exact_bytes}
-use Rattle.std.proofs.lemmas.Slice.Eq.{bytes_eq-Decides}
-use Rattle.vs_defs.specs.Bytes.{same_name, sort_by, first_in}
-use Rattle.vs_defs.specs.Store.{Member, is_of_name}
+use Rattle.vs_defs.specs.Bytes.{sort_by, first_in}
+use Rattle.vs_defs.specs.Store.{Member}
 use Rattle.vs_defs.specs.Removal as rules
 use Rattle.vs_graph.specs.declared.node.Node.{Node}
 use Rattle.vs_graph.specs.Good.{AreLinksGood}
@@ -22,6 +21,8 @@ use Rattle.vs_graph.specs.Standing.{AreIds, member_of_node, member_at, members_o
 use Rattle.vs_graph.proofs.Lists.{not_true}
 use Rattle.vs_graph.proofs.Sorts.{In, in_map, from_map, in_filter, from_filter, in_from_test, test_from_in, find_is, sorted_is, in_sort, from_sort, less_or_same, lt_is_gt, gt_back}
 use Rattle.vs_graph.proofs.Standing.{member_name, names_differ}
+use Rattle.vs_graph.specs.Table.{without}
+use Rattle.vs_unlink.proofs.Leavings.{members_left}
 use Rattle.vs_insert.specs.Height.{height, IsHighestBelow}
 
 -- ---- the order
@@ -108,50 +109,63 @@ some_and : (o : Option Node) (P : Node → Type 0) → IsSomeAnd o P → IsSome 
 some_and None P h = absurd h
 some_and (Some n) P h = refl
 
-module _ (at : ℕ → Option Node) (m dim : ℕ) (ids : List ℕ) (good : AreLinksGood at m dim) (are : AreIds at ids) (but count b : ℕ) (live_but : IsSome (at but)) (h : IsHighestBelow at but count (Some b)) (low : (q : ℕ) → IsSome (at q) → q < count) where
-  live_b : is_live ids b ≡ true
-  live_b = are.live b ∙ some_and (at b) _ h.1
+module _ (at : ℕ → Option Node) (m dim : ℕ) (ids : List ℕ) (good : AreLinksGood at m dim) (are : AreIds at ids) (but count : ℕ) (low : (q : ℕ) → IsSome (at q) → q < count) where
+  abbrev others : List Member
+  others = members_of at dim (without but ids)
 
-  abbrev passes : Member → Bool
-  passes y = not (is_of_name (name_of at but) y)
+  other_id : (q : ℕ) → In q (without but ids) → In q ids × (q ≢ but)
+  other_id q inside = let f = from_filter (λ z. not (eqb z but)) q ids inside in (f.0, eqb-false q but (not-true (eqb q but) f.1))
 
-  abbrev w : Member
-  w = member_at at dim b
+  some_id : (q : ℕ) → In q ids → IsSome (at q)
+  some_id q inside = sym (are.live q) ∙ test_from_in q ids inside
 
-  w_inside : In w (filter passes (members_of at dim ids))
-  w_inside =
-      in_filter passes w (members_of at dim ids)
-      (not_from_false (same_name (name_of at but) w.name) (not_true (same_name (name_of at but) w.name) (λ e.
-      h.0 (sym (names_differ at m dim ids good are but b (are.live but ∙ live_but) live_b ((bytes_eq-Decides (name_of at but) w.name).0 e ∙ member_name at m dim b))))))
-      (in_map (member_at at dim) b ids (in_from_test b ids live_b))
+  module _ (b : ℕ) (h : IsHighestBelow at but count (Some b)) where
+    live_b : is_live ids b ≡ true
+    live_b = are.live b ∙ some_and (at b) _ h.1
 
-  other_id : (q : ℕ) → passes (member_at at dim q) ≡ true → q ≢ but
-  other_id q pass is =
-      both_ways (same_name (name_of at but) (member_at at dim q).name) (not-true (same_name (name_of at but) (member_at at dim q).name) pass)
-      ((bytes_eq-Decides (name_of at but) (member_at at dim q).name).1 (ap (name_of at) (sym is) ∙ sym (member_name at m dim q)))
+    abbrev w : Member
+    w = member_at at dim b
 
-  first_of_all : (z : Member) → In z (filter passes (members_of at dim ids)) → (z ≡ w) ⊎ (rules.height w z ≡ Less)
-  first_of_all z inside =
-      let f = from_filter passes z (members_of at dim ids) inside in
-      let q = from_map (member_at at dim) z ids f.0 in
-      let live_q : is_live ids q.0 ≡ true = test_from_in q.0 ids q.1 in
-      let some_q : IsSome (at q.0) = sym (are.live q.0) ∙ live_q in
-      let ne : q.0 ≢ but = other_id q.0 (ap passes q.2 ∙ f.1) in
-      let not_above : is_gt (rules.height w (member_at at dim q.0)) ≡ false = heights dim (at b) (at q.0) (spread at but count q.0 (at b) h.1 (low q.0 some_q) ne) some_q in
-      elim (less_or_same (rules.height w (member_at at dim q.0)) not_above) [
-        | inl less ↦ inr (ap (rules.height w) (sym q.2) ∙ less)
-        | inr tie ↦
-            let names : w.name ≡ (member_at at dim q.0).name = exact_bytes w.name (member_at at dim q.0).name (then_second _ _ tie) in
-            let same : b ≡ q.0 = names_differ at m dim ids good are b q.0 live_b live_q (sym (member_name at m dim b) ∙ names ∙ member_name at m dim q.0) in
-            inl (sym q.2 ∙ ap (member_at at dim) (sym same))
-      ]
+    w_inside : In w others
+    w_inside = in_map (member_at at dim) b (without but ids) (in_filter (λ z. not (eqb z but)) b ids (not_from_false (eqb b but) (ne_eqb b but h.0)) (in_from_test b ids live_b))
 
-  -- the highest by names
-  pub highest_named : rules.highest (rules.all_but (name_of at but) (members_of at dim ids)) ≡ Some (name_of at b)
-  highest_named =
-      let all = filter passes (members_of at dim ids) in
-      ap (option_map (λ (x : Member). x.name))
-      (sym (first_find (sort_by rules.height all))
-      ∙ find_is rules.height member_total (λ (z : Member). true) w (sort_by rules.height all) (sorted_is rules.height member_total all) (in_sort rules.height member_total w all w_inside) refl
-      (λ z inside pass. first_of_all z (from_sort rules.height member_total z all inside)))
-      ∙ ap (λ n. Some n) (member_name at m dim b)
+    first_of_all : (z : Member) → In z others → (z ≡ w) ⊎ (rules.height w z ≡ Less)
+    first_of_all z inside =
+        let q = from_map (member_at at dim) z (without but ids) inside in
+        let other = other_id q.0 q.1 in
+        let some_q = some_id q.0 other.0 in
+        let not_above : is_gt (rules.height w (member_at at dim q.0)) ≡ false = heights dim (at b) (at q.0) (spread at but count q.0 (at b) h.1 (low q.0 some_q) other.1) some_q in
+        elim (less_or_same (rules.height w (member_at at dim q.0)) not_above) [
+          | inl less ↦ inr (ap (rules.height w) (sym q.2) ∙ less)
+          | inr tie ↦
+              let names : w.name ≡ (member_at at dim q.0).name = exact_bytes w.name (member_at at dim q.0).name (then_second _ _ tie) in
+              let same : b ≡ q.0 = names_differ at m dim ids good are b q.0 live_b (test_from_in q.0 ids other.0) (sym (member_name at m dim b) ∙ names ∙ member_name at m dim q.0) in
+              inl (sym q.2 ∙ ap (member_at at dim) (sym same))
+        ]
+
+    -- the highest of the others by names
+    pub highest_other : rules.highest others ≡ Some (name_of at b)
+    highest_other =
+        ap (option_map (λ (x : Member). x.name))
+        (sym (first_find (sort_by rules.height others))
+        ∙ find_is rules.height member_total (λ (z : Member). true) w (sort_by rules.height others) (sorted_is rules.height member_total others) (in_sort rules.height member_total w others w_inside) refl
+        (λ z inside pass. first_of_all z (from_sort rules.height member_total z others inside)))
+        ∙ ap (λ n. Some n) (member_name at m dim b)
+
+    -- where the one left out is a member
+    pub highest_named : IsSome (at but) → rules.highest (rules.all_but (name_of at but) (members_of at dim ids)) ≡ Some (name_of at b)
+    highest_named live_but = ap rules.highest (sym (members_left at at but m dim ids good are live_but (λ q ne. refl))) ∙ highest_other
+
+  no_other : IsHighestBelow at but count None → (q : ℕ) → In q (without but ids) → ⊥
+  no_other h q inside =
+      let other = other_id q inside in
+      let some_q = some_id q other.0 in
+      both_ways (is_some (at q)) (ap is_some (h q (low q some_q) other.1)) some_q
+
+  -- the highest by names of those below a number, none where there is no other
+  pub highest_is : (best : Option ℕ) → IsHighestBelow at but count best → rules.highest others ≡ option_map (name_of at) best
+  highest_is None h = ap (λ l. rules.highest (members_of at dim l)) (nobody (without but ids) (no_other h)) where
+    nobody : (xs : List ℕ) → ((q : ℕ) → In q xs → ⊥) → xs ≡ []
+    nobody [] f = refl
+    nobody (x ∷ xs) f = absurd (f x (inl refl))
+  highest_is (Some b) h = highest_other b h

@@ -138,7 +138,7 @@ module _ (at now new : ℕ → Option Node) (top : Option ℕ) (m dim entry laye
   highest_other is =
       ap (λ ms. rules.highest (rules.all_but (name_of at y) ms)) (sym (members_left at now x m dim ids good.links are gone))
       ∙ ap (λ n. rules.highest (rules.all_but n (members_of now dim (without x ids)))) (sym (name_now y stands))
-      ∙ highest_named now m dim (without x ids) left (ids_left at now x m dim ids good.links are gone) y (2 ^ 20) made.choice.start (some_node layer (now y) stands) (made.choice.starts.at_highest is (2 ^ 20)) left.small
+      ∙ highest_named now m dim (without x ids) left (ids_left at now x m dim ids good.links are gone) y (2 ^ 20) left.small made.choice.start (made.choice.starts.at_highest is (2 ^ 20)) (some_node layer (now y) stands)
       ∙ ap (λ n. Some n) (name_now made.choice.start start_stands.1)
 
   starts_named : rules.beam_start (set_of at top m dim cut ids) (name_of at x) (Some (name_of at entry)) (name_of at y) ≡ Some (name_of at made.choice.start)

@@ -1,6 +1,10 @@
-ghost use Rattle.std.specs.Prelude.{◌≡◌, ◌≢◌, ◌+◌, ℕ, IfSome, IsSome};
+ghost use Rattle.std.specs.Prelude.{◌≡◌, ◌≢◌, ◌+◌, ℕ, List as Items, IfSome, IsSome, option_map};
 ghost use Rattle.std.specs.Ordering.{is_lt};
+ghost use Rattle.vs_defs.specs.Removal.{highest};
 ghost use Rattle.vs_graph.specs.Edits.{overwritten};
+ghost use Rattle.vs_graph.specs.Good.{AreLinksGood};
+ghost use Rattle.vs_graph.specs.Standing.{AreIds, members_of, name_of};
+ghost use Rattle.vs_graph.specs.Table.{without};
 ghost use Rattle.vs_insert.specs.Height.{height, IsHighestBelow};
 
 use std::sync::ledger::Ledger;
@@ -49,7 +53,9 @@ pub fn highest_but<N: Nodes, L: Ledger>(
     reads: &mut Steps<L>,
 ) -> Option<u32>
     requires { (id : ℕ) → IsSome (overwritten edit.now (N.at base.now) id) → IsSome (N.at base.now id) }
-    ensures { (count : ℕ) → IsHighestBelow (overwritten edit.now (N.at base.now)) but count result }
+    ensures best { (count : ℕ) → IsHighestBelow (overwritten edit.now (N.at base.now)) but count result }
+    ensures named { (m dim : ℕ) (ids : Items ℕ) → AreLinksGood (overwritten edit.now (N.at base.now)) m dim → AreIds (overwritten edit.now (N.at base.now)) ids
+        → highest (members_of (overwritten edit.now (N.at base.now)) dim (without but ids)) ≡ option_map (name_of (overwritten edit.now (N.at base.now))) result }
 {
     let mut best = None;
     for id in 0..base.limit() {
