@@ -10,7 +10,7 @@ use crate::Draft;
 use crate::joining::{join_layers, shared_layers};
 use std::alloc::Global;
 use std::sync::ledger::Ledger;
-use vs_graph::{Attr, Edit, Graph, Node, Nodes, Shared, Steps, no_links, put_newcomer};
+use vs_graph::{Attr, Edit, Graph, Node, Nodes, RefCounted, Steps, no_links, put_newcomer};
 use vs_outside::NoMemory;
 
 /// The change that adds a draft's member, and the entry after it.
@@ -19,7 +19,7 @@ fn addition<N: Nodes, L: Ledger>(
     graph: &Graph<N>,
     draft: Draft,
     id: u32,
-    attr: Option<Shared<Attr>>,
+    attr: Option<RefCounted<Attr>>,
     reads: &mut Steps<L>,
 ) -> Result<(Edit, Option<u32>), NoMemory>
     requires free { N.at graph.now.nodes id ≡ None }
@@ -73,7 +73,7 @@ pub fn commit<N: Nodes, L: Ledger>(
     graph: &mut Graph<N>,
     draft: Draft,
     id: u32,
-    attr: Option<Shared<Attr>>,
+    attr: Option<RefCounted<Attr>>,
     reads: &mut Steps<L>,
 ) -> Result<(), NoMemory>
     requires free { N.at graph.old.nodes id ≡ None }

@@ -13,7 +13,7 @@ use crate::{Chosen, Draft};
 use std::alloc::Global;
 use std::sync::ledger::Ledger;
 use vs_beam::{Descent, descend};
-use vs_graph::{Body, Graph, Nodes, Shared, Steps};
+use vs_graph::{Body, Graph, Nodes, RefCounted, Steps};
 use vs_outside::{List, NoMemory};
 use vs_rank::{Testing, Wanted};
 use vs_slot::Slot;
@@ -67,7 +67,7 @@ pub fn prepare<N: Nodes, L: Ledger>(
     alloc: Global,
     graph: &Graph<N>,
     cut: u64,
-    body: Shared<Body>,
+    body: RefCounted<Body>,
     level: u8,
     ef: u32,
     slot: &mut Slot,

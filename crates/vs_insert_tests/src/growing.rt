@@ -5,21 +5,21 @@ ghost use Rattle.vs_insert.specs.Added.{AreDrafted};
 
 use std::alloc::Global;
 use std::sync::ledger::Ledger;
-use vs_graph::{Body, FreshNodes, Graph, Nodes, Shared, Steps};
-use vs_graph_tests::{is_new_name, word_at};
+use vs_graph::{Body, FreshNodes, Graph, Nodes, RefCounted, Steps};
+use vs_graph_fixtures::{is_new_name, word_at};
 use vs_insert::{Draft, commit, prepare};
 use vs_outside::{List, NoMemory, Text};
 use vs_slot::Slot;
 
 /// A name, and a vector of 64 bits.
-pub fn body_of(alloc: Global, name: &[u8], word: u64) -> Result<Shared<Body>, NoMemory>
+pub fn body_of(alloc: Global, name: &[u8], word: u64) -> Result<RefCounted<Body>, NoMemory>
     ensures { IfOk result (λ body. body.bits ≡ word ∷ []) }
 {
     let body = Body {
         name: Text::from_slice(alloc, name)?,
         bits: List::from_slice(alloc, &[word])?,
     };
-    Shared::new(alloc, body)
+    RefCounted::new(alloc, body)
 }
 
 /// A draft by beams of width 8.

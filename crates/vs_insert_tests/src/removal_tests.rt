@@ -6,7 +6,7 @@ use std::marker::Brand;
 use std::process::Abort;
 use std::sync::ledger::{Blank, Ledger};
 use vs_graph::{Graph, ListNodes, Nodes, Steps};
-use vs_graph_tests::word_at;
+use vs_graph_fixtures::word_at;
 use vs_outside::NoMemory;
 use vs_slot::Slot;
 

@@ -6,7 +6,7 @@ use std::marker::Brand;
 use std::process::Abort;
 use std::sync::ledger::{Blank, Ledger};
 use vs_graph::{Edit, FreshNodes, Graph, ListNodes, Nodes, Steps, links};
-use vs_graph_tests::Counted;
+use vs_graph_fixtures::Counted;
 use vs_outside::NoMemory;
 use vs_slot::Slot;
 

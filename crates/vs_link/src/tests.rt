@@ -8,7 +8,7 @@ use std::alloc::Global;
 use std::marker::{Brand, Model};
 use std::sync::ledger::{Blank, Ledger};
 use vs_graph::{
-    Body, Edit, ListNodes, Node, Nodes, Shared, Steps, degree, links, no_links, put_newcomer,
+    Body, Edit, ListNodes, Node, Nodes, RefCounted, Steps, degree, links, no_links, put_newcomer,
 };
 use vs_outside::{List, NoMemory, Text};
 use vs_rank::Key;
@@ -93,7 +93,7 @@ impl Draft {
         name.push(self.next as u8)?;
         let bits = List::from_slice(alloc, &[word])?;
         let node = Node {
-            body: Shared::new(alloc, Body { name, bits })?,
+            body: RefCounted::new(alloc, Body { name, bits })?,
             attr: None,
             level: 0,
             links: no_links(alloc, 0)?,

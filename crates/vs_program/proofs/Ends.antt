@@ -5,10 +5,10 @@ use Rattle.vs_defs.specs.ProgramWords.{Settings, setting, settings_of, seed, job
 use Rattle.vs_defs.specs.ProgramWords.Job.{Script}
 use Rattle.vs_session_defs.specs.Words.{generator}
 use Rattle.vs_outside.proofs.KnownBytes.{Adds-none, in_front-none}
-use Rattle.vs_session.specs.Written.{WrittenOf}
-use Rattle.vs_session.specs.declared.end.SessionEnd.TheVariants as ends
-use Rattle.vs_session.proofs.Ends.{ends_at_once}
-use Rattle.vs_words.specs.Words.{job_named, are_plain}
+use Rattle.vs_connection.specs.Written.{WrittenOf}
+use Rattle.vs_connection.specs.declared.end.SessionEnd.TheVariants as ends
+use Rattle.vs_connection.proofs.Ends.{ends_at_once}
+use Rattle.vs_args.specs.Words.{job_named, are_plain}
 use Rattle.vs_program.specs.declared.status.Status.TheVariants.{NoMemory}
 use Rattle.vs_program.specs.Jobs.{Does, ServesAlone, Refuses, bad_words}
 

@@ -2,8 +2,8 @@
 use Rattle.std.specs.Prelude.{ℕ}
 use Rattle.vs_program.specs.declared.status.Status.{Status}
 use Rattle.vs_program.specs.declared.status.Status.TheVariants.{Done, BadWords, Protocol, CutShort, ReadFault, WriteFault, NoMemory, Spent}
-use Rattle.vs_session.specs.declared.end.SessionEnd.{SessionEnd}
-use Rattle.vs_session.specs.declared.end.SessionEnd.TheVariants as ends
+use Rattle.vs_connection.specs.declared.end.SessionEnd.{SessionEnd}
+use Rattle.vs_connection.specs.declared.end.SessionEnd.TheVariants as ends
 
 abbrev pub status_of : SessionEnd → Status
 status_of ends.Ended = Done

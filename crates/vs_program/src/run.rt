@@ -1,15 +1,15 @@
 //! The jobs of one thread.
 ghost use Rattle.std.specs.Prelude.{◌≡◌, ◌<◌, ◌⊎◌};
 ghost use Rattle.vs_outside.specs.Known.{Adds};
-ghost use Rattle.vs_words.specs.Words.{job_named};
+ghost use Rattle.vs_args.specs.Words.{job_named};
 ghost use Rattle.vs_program.specs.Jobs.{Does, Refuses, bad_words};
 
 use crate::status::{Status, status_at};
 use std::alloc::Global;
+use vs_args::{Job, WordsError, read_words};
+use vs_connection::write_all;
 use vs_outside::{Sink, Source, Text};
-use vs_server::serve_alone;
-use vs_session::write_all;
-use vs_words::{Job, WordsError, read_words};
+use vs_session::serve_alone;
 
 /// What is written where the words name no job.
 const BAD_WORDS: &[u8] = b"vectord: bad words\n";

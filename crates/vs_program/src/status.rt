@@ -2,7 +2,7 @@
 ghost use Rattle.std.specs.Prelude.{◌≡◌};
 ghost use Rattle.vs_program.specs.Status.{status_of, exit_code};
 
-use vs_session::SessionEnd;
+use vs_connection::SessionEnd;
 
 /// How the program ends.
 ///

@@ -7,8 +7,8 @@ use rand_core::utils::NextWord;
 use rand_pcg::Lcg64Xsh32;
 use std::alloc::Global;
 use std::sync::ledger::Ledger;
-use vs_graph::{Body, FreshNodes, Graph, Nodes, Shared, Steps};
-use vs_graph_tests::is_new_name;
+use vs_graph::{Body, FreshNodes, Graph, Nodes, RefCounted, Steps};
+use vs_graph_fixtures::is_new_name;
 use vs_insert::{commit, prepare};
 use vs_outside::{List, Text};
 use vs_slot::Slot;
@@ -45,7 +45,7 @@ fn add<N: Nodes, L: Ledger>(
         name: Text::from_slice(alloc, row.name.as_slice())?,
         bits: List::from_slice(alloc, row.bits.words())?,
     };
-    let body = Shared::new(alloc, body)?;
+    let body = RefCounted::new(alloc, body)?;
     let draft = prepare(alloc, graph, 0, body, level, 64, slot, reads)?;
     commit(alloc, graph, draft, id, None, reads)?;
     Ok(())

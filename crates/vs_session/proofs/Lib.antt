@@ -1,5 +1,2 @@
-pub mod Drawn
-pub mod Calls
 pub mod Serving
-pub mod Sessions
-pub mod Ends
+pub mod Changes

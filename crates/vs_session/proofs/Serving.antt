@@ -1,47 +1,88 @@
--- Messages served in turn: one more at the end.
-use Rattle.std.proofs.Common.{◌≡◌, Bool, List, [], ◌∷◌, ◌++◌, refl, sym, ap, subst, ◌∙◌, append_assoc, append-nil, true, false}
-use Rattle.std.specs.Prelude.{MatchBool}
+-- How a message was served, from what was read, drawn and done.
+use Rattle.std.proofs.Common.{◌≡◌, ℕ, zero, suc, length, Bool, true, false, List, Option, Some, None, Result, Ok, Err, refl, sym, ap, subst, ◌∙◌, inl, inr, cond}
+use Rattle.std.specs.Prelude.{IfSome}
 use Rattle.rand_pcg.specs.Lcg.{Lcg}
-use Rattle.vs_defs.specs.Bytes.{Bytes}
+use Rattle.vs_defs.specs.Request as request
 use Rattle.vs_defs.specs.Stream.{Message}
-use Rattle.vs_defs.specs.Reply.{Outcome, reply}
-use Rattle.vs_defs.specs.PlainMachine.{PlainHistory}
-use Rattle.vs_session_defs.specs.Session.{is_bye, quits, replies, last_reply}
-use Rattle.vs_session.specs.Stage.{Serves, ServesOne}
+use Rattle.vs_defs.specs.Bounds.{IsInBounds}
+use Rattle.vs_defs.specs.Reply.{Outcome}
+use Rattle.vs_defs.specs.Reply as outcome
+use Rattle.vs_defs.specs.Read.{read as read_words}
+use Rattle.vs_defs.specs.Stages.{is_plain, if_built}
+use Rattle.vs_defs.specs.Store.{PlainStore}
+use Rattle.vs_defs.specs.PlainMachine.{PlainHistory, PlainDoes}
+use Rattle.vs_session_defs.specs.Session as session
+use Rattle.rand_pcg.specs.Pcg.{pcg32}
+use Rattle.vs_session_defs.specs.Words.{drawn, after_draws}
+use Rattle.vs_command.specs.Outcomes.{refused_by}
+use Rattle.vs_connection.specs.Stage.{Call, read, draws}
+use Rattle.vs_connection.specs.Served.{IsServed}
+use Rattle.vs_connection.proofs.Calls.{calls, Calls}
+use Rattle.vs_session.specs.After.{After}
 
-pub replies_push : (os : List Outcome) (o : Outcome) → replies (os ++ o ∷ []) ≡ replies os ++ reply o
-replies_push [] o = append-nil (reply o)
-replies_push (p ∷ os) o = ap (λ (l : Bytes). reply p ++ l) (replies_push os o) ∙ sym (append_assoc (reply p) (replies os) (reply o))
+-- ---- what is read is built
 
-pub quits_push : (os : List Outcome) (o : Outcome) → quits (os ++ o ∷ []) ≡ is_bye o
-quits_push [] o = refl
-quits_push (p ∷ []) o = refl
-quits_push (p ∷ q ∷ os) o = quits_push (q ∷ os) o
+is_built_at : (test : request.Request → Bool) (b : Bool) (q r : request.Request) → test q ≡ b → cond b (Ok q) (Err request.NotBuilt) ≡ Ok r → test r ≡ true
+is_built_at test true q r is e = let same : q ≡ r = cc in ap test (sym same) ∙ is
+is_built_at test false q r is e = absurd (cc)
 
-pub last_push : (os : List Outcome) (o : Outcome) → last_reply (os ++ o ∷ []) ≡ reply o
-last_push [] o = refl
-last_push (p ∷ []) o = refl
-last_push (p ∷ q ∷ os) o = last_push (q ∷ os) o
+is_built : (test : request.Request → Bool) (x : Result request.Request request.Refusal) (r : request.Request) → if_built test x ≡ Ok r → test r ≡ true
+is_built test (Ok q) r e = is_built_at test (test q) q r refl e
+is_built test (Err e) r is = absurd (cc)
 
-none_behind : (b : Bool) → MatchBool b (◌≡◌ {A = List Message} [] []) (Unit {0})
-none_behind true = refl
-none_behind false = tt
+pub read_is_plain : (message : Message) (r : request.Request) → read message ≡ Ok r → is_plain r ≡ true
+read_is_plain message r e = is_built is_plain (read_words message) r e
 
--- one more message is served, where the last one was no QUIT
-pub serves_push : (g : Lcg) (s : PlainHistory) (ms : List Message) (os : List Outcome) (t : PlainHistory) (h : Lcg) (m : Message) (o : Outcome) (u : PlainHistory) (i : Lcg) →
-    Serves g s ms os t h → quits os ≡ false → ServesOne h t m o u i → Serves g s (ms ++ m ∷ []) (os ++ o ∷ []) u i
-serves_push g s [] [] t h m o u i (is, same) going one =
-    let here : ServesOne g s m o u i = subst (λ (x : Lcg). ServesOne x s m o u i) same (subst (λ (x : PlainHistory). ServesOne h x m o u i) is one) in
-    (u, i, here, none_behind (is_bye o), (refl, refl))
-serves_push g s [] (p ∷ os) t h m o u i w going one = absurd w
-serves_push g s (n ∷ ms) [] t h m o u i w going one = absurd w
-serves_push g s (n ∷ []) (p ∷ []) t h m o u i (mid, k, first, end, rest) going one =
-    (mid, k, first, subst (λ (b : Bool). MatchBool b (m ∷ [] ≡ []) (Unit {0})) (sym going) tt, serves_push k mid [] [] t h m o u i rest refl one)
-serves_push g s (n ∷ l ∷ ms) (p ∷ []) t h m o u i (mid, k, first, end, rest) going one = absurd rest
-serves_push g s (n ∷ []) (p ∷ q ∷ os) t h m o u i (mid, k, first, end, rest) going one = absurd rest
-serves_push g s (n ∷ l ∷ ms) (p ∷ q ∷ os) t h m o u i (mid, k, first, end, rest) going one =
-    (mid, k, first, later (is_bye p) end, serves_push k mid (l ∷ ms) (q ∷ os) t h m o u i rest going one)
-  where
-    later : (b : Bool) → MatchBool b (l ∷ ms ≡ []) (Unit {0}) → MatchBool b (l ∷ (ms ++ m ∷ []) ≡ []) (Unit {0})
-    later true e = absurd (cc)
-    later false e = tt
+-- ---- what is drawn
+
+pub length_drawn : (n : ℕ) (g : Lcg) → length (drawn n g) ≡ n
+length_drawn zero g = refl
+length_drawn (suc n) g = ap suc (length_drawn n (pcg32 g).1)
+
+-- ---- the ways in which a message is served
+
+abbrev pub Serving : PlainStore → Lcg → Outcome → Lcg → PlainHistory → Message → Type 0
+Serving store gen o g h message = IsServed (After store gen) (λ p. p ≡ o) g h message
+
+pub starved : (store : PlainStore) (gen : Lcg) (message : Message) (h : PlainHistory) (g : Lcg) → After store gen h g → Serving store gen outcome.OutOfMemory g h message
+starved store gen message h g after = (outcome.OutOfMemory, h, g, inr (refl, refl, refl), after, after.stored.own, refl)
+
+refused : (store : PlainStore) (gen : Lcg) (message : Message) (cause : request.Refusal) → read message ≡ Err cause → (h : PlainHistory) (g : Lcg) → After store gen h g →
+    Serving store gen (outcome.Refused cause) g h message
+refused store gen message cause is h g after = (
+  outcome.Refused cause,
+  h,
+  g,
+  inl (subst (λ (x : Result request.Request request.Refusal). session.ServesRead Call true read draws 0 g h x (outcome.Refused cause) h g) (sym is) (refl, refl, refl)),
+  after,
+  after.stored.own,
+  refl,
+)
+
+-- a message that was refused, or for whose reading there was no memory
+pub not_read : (store : PlainStore) (gen : Lcg) (message : Message) (cause : Option request.Refusal) → IfSome cause (λ c. read message ≡ Err c) → (h : PlainHistory) (g : Lcg) →
+    After store gen h g → Serving store gen (refused_by cause) g h message
+not_read store gen message None is h g after = starved store gen message h g after
+not_read store gen message (Some cause) is h g after = refused store gen message cause is h g after
+
+-- a request that was carried out
+pub carried_out : (old new : PlainStore) (gen gen' : Lcg) (message : Message) (r : request.Request) (words : List ℕ) (o : Outcome) → read message ≡ Ok r → IsInBounds r →
+    words ≡ drawn (draws r) gen → gen' ≡ after_draws (draws r) gen → PlainDoes old r words o new → (h : PlainHistory) (g : Lcg) → After old gen h g → Serving new gen' o g h message
+carried_out old new gen gen' message r words o is bounds words_are moved does h g after =
+    let call : Calls h r (drawn (draws r) g) o new =
+    calls old new h r (drawn (draws r) g) o after.stored bounds
+    (subst (λ (x : List ℕ). PlainDoes old r x o new) (words_are ∙ ap (λ (x : Lcg). drawn (draws r) x) after.words) does)
+    in (
+      o,
+      call.0,
+      after_draws (draws r) g,
+      inl (subst (λ (x : Result request.Request request.Refusal). session.ServesRead Call true read draws 0 g h x o call.0 (after_draws (draws r) g)) (sym is) (call.1, refl)),
+      record { stored = call.2; words = moved ∙ ap (λ (x : Lcg). after_draws (draws r) x) after.words },
+      call.2.own,
+      refl,
+    )
+
+-- what is replied to an outcome
+pub with_reply : (now : PlainHistory → Lcg → Type 0) (o : Outcome) (replied : Outcome → Type 0) (g : Lcg) (h : PlainHistory) (message : Message) → IsServed now (λ p. p ≡ o) g h message →
+    replied o → IsServed now replied g h message
+with_reply now o replied g h message (p, t, g', one, there, own, is) r = (p, t, g', one, there, own, subst replied (sym is) r)

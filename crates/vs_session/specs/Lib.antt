@@ -1,7 +1,1 @@
-pub mod Stage
-pub mod Written
-pub mod Own
-pub mod Stored
-pub mod Served
-pub mod Connection
-pub mod SoFar
+pub mod After

@@ -1,16 +1,10 @@
-//! One connection: requests in, replies out, by whatever handles its messages.
+//! A connection served alone, by a store of its own.
 #![tactic(auto)]
 
-mod end;
-mod handler;
-mod random_words;
-mod serve;
-#[cfg(test)]
-mod tests;
-mod write;
+mod alone;
+mod machine;
+mod server;
 
-pub use end::SessionEnd;
-pub use handler::{Handler, Replied};
-pub use random_words::{draw, generator};
-pub use serve::serve_by;
-pub use write::write_all;
+pub use alone::serve_alone;
+pub use machine::Machine;
+pub use server::Server;

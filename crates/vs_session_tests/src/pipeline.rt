@@ -3,8 +3,8 @@ use crate::requests::{push_number, push_request};
 use crate::served::served;
 use std::alloc::Global;
 use std::test::Fail;
+use vs_connection::SessionEnd;
 use vs_outside::{NoMemory, Text};
-use vs_session::SessionEnd;
 
 const MEMBERS: usize = 300;
 

@@ -2,9 +2,9 @@
 ghost use Rattle.std.specs.Prelude.{◌≡◌, ◌≤◌};
 
 use std::alloc::Global;
+use vs_connection::SessionEnd;
 use vs_outside::{List, MemSink, MemSource, NoMemory, Text};
-use vs_server::serve_alone;
-use vs_session::SessionEnd;
+use vs_session::serve_alone;
 
 /// The end, and what was written, where the source gives pieces of this size. The calls of these numbers fail; 0 is none.
 pub fn served(

@@ -2,9 +2,9 @@
 use crate::requests::requests;
 use crate::served::{gives, served};
 use std::test::Fail;
+use vs_connection::SessionEnd;
 use vs_outside::Text;
 use vs_resp::Fault;
-use vs_session::SessionEnd;
 
 #[test]
 fn members_are_added_replaced_and_shown(rt: HostRuntime) -> Result<(), Fail> {

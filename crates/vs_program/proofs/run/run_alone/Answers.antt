@@ -1,5 +1,5 @@
 use Rattle.std.proofs.Common.{Err, subst}
-use Rattle.vs_words.specs.Readings.{IsReading}
+use Rattle.vs_args.specs.Readings.{IsReading}
 use Rattle.vs_program.proofs.Ends.{no_memory}
 use Rattle.vs_program.proofs.run.run_alone.Goals as goal
 

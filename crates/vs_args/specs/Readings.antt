@@ -1,0 +1,19 @@
+-- What is read of the program's words.
+use Rattle.std.specs.Prelude.{◌≡◌, true, List, Some, None, Result, Ok, Err}
+use Rattle.vs_defs.specs.Bytes.{Bytes}
+use Rattle.vs_defs.specs.ProgramWords as defs
+use Rattle.vs_args.specs.Words.{job_named, are_plain}
+use Rattle.vs_args.specs.declared.job.Job.{Job}
+use Rattle.vs_args.specs.declared.job.Job.TheVariants.{Script}
+use Rattle.vs_args.specs.declared.job.WordsError.{WordsError}
+use Rattle.vs_args.specs.declared.job.WordsError.TheVariants.{NoMemory, BadWords}
+
+-- the definitions' job that a job of the program is
+abbrev pub job_of : Job → defs.Job
+job_of (Script seed) = defs.Script seed
+
+-- the job that plain words name; BadWords exactly where the words aren't plain
+abbrev pub IsReading : List Bytes → Result Job WordsError → Type 0
+IsReading words (Ok job) = job_named words ≡ Some (job_of job)
+IsReading words (Err NoMemory) = are_plain words ≡ true
+IsReading words (Err BadWords) = job_named words ≡ None

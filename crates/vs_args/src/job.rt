@@ -1,0 +1,63 @@
+//! The job that the program's words name.
+ghost use Rattle.std.specs.Prelude.{◌≡◌, true, IfOk, IfErr, map, All};
+ghost use Rattle.std.specs.Str.{IsUtf8};
+ghost use Rattle.vs_args.specs.Readings.{IsReading};
+
+use crate::arguments::seed_text;
+use crate::command::Choice;
+use crate::plain::are_plain;
+use std::alloc::Global;
+use std::str;
+use thiserror::Error;
+use vs_outside::{NoMemory, Text};
+
+/// What the program is asked to do.
+#[derive(Clone, Copy, Debug, PartialEq, Eq)]
+pub enum Job {
+    /// Serve standard input, with random words of this seed.
+    Script { seed: u64 },
+}
+
+/// Why words name no job.
+#[derive(Clone, Copy, Debug, PartialEq, Eq, Error)]
+pub enum WordsError {
+    #[error("not enough memory")]
+    NoMemory,
+    #[error("bad words")]
+    BadWords,
+}
+
+// The words as texts of `clap`.
+fn texts_of<'a>(alloc: Global, words: &'a [Text]) -> Result<Vec<&'a str>, WordsError>
+    requires { All IsUtf8 words.now }
+    ensures ok { IfOk result (λ texts. map (λ w. w.now) texts.items ≡ words.now) }
+    ensures err { IfErr result (λ e. e ≡ WordsError.NoMemory) }
+{
+    let mut texts = Vec::new(alloc);
+    for word in words {
+        match str::from_utf8(word.as_slice()) {
+            Ok(text) => texts.push(text).map_err(|_| WordsError::NoMemory)?,
+            Err(_) => unreachable!(),
+        }
+    }
+    Ok(texts)
+}
+
+/// Reads the program's words: first a command that is built, then options of it with their values, as two words or as one word
+/// `--option=value`, each at most once and in any order. A value is decimal digits without a leading zero, in the option's range; an option
+/// that isn't named has its default.
+pub fn read_words(alloc: Global, words: &[Text]) -> Result<Job, WordsError>
+    ensures { IsReading words.now result }
+{
+    if !are_plain(words) {
+        return Err(WordsError::BadWords);
+    }
+    let texts = texts_of(alloc, words)?;
+    let Ok(text) = seed_text(alloc, &texts) else {
+        return Err(WordsError::NoMemory);
+    };
+    match Choice::Seed.value(text.as_bytes()) {
+        Some(seed) => Ok(Job::Script { seed }),
+        None => unreachable!(),
+    }
+}

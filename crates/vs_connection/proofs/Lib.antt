@@ -1,0 +1,5 @@
+pub mod Drawn
+pub mod Calls
+pub mod Serving
+pub mod Sessions
+pub mod Ends

@@ -1,0 +1,122 @@
+use Rattle.std.proofs.Common.{◌<◌, List, [], ◌∷◌, ◌++◌, sym, subst, ◌∙◌, append_assoc, append-nil, arith, length, true}
+use Rattle.vs_defs.specs.Bytes.{Bytes}
+use Rattle.vs_defs.specs.Stream.{Message}
+use Rattle.vs_defs.specs.Reply.{reply}
+use Rattle.vs_defs.proofs.MessageLimits.{IsWithinLimits}
+use Rattle.vs_outside.proofs.KnownBytes.{Adds-trans}
+use Rattle.vs_stream.specs.Given.{GivenFirst}
+use Rattle.vs_resp.specs.Stands.{Stands}
+use Rattle.vs_connection.specs.declared.end.SessionEnd.TheVariants.{Quit, WriteFault}
+use Rattle.vs_connection.specs.Stage.{ServesOne}
+use Rattle.vs_connection.specs.Connection.{EndsWith}
+use Rattle.vs_connection.specs.SoFar.{SoFar}
+use Rattle.vs_connection.proofs.Sessions.{Next, one_more, to_quit, loses, given_few, given_some}
+use Rattle.vs_connection.proofs.serve.answer_all.Goals as goal
+
+pub handle-requires : goal.handle-requires
+handle-requires g c =
+    let given = c.loop-message.invariant.given in
+    let first : GivenFirst true given.0 (given.1 ++ c.in-Some.message ∷ []) = c.in-Some.ensures.first given.0 given.1 given.2 in
+    let limits : IsWithinLimits c.as_slice.result.now = subst IsWithinLimits (sym c.as_slice.ensures) (given_few given.0 given.1 c.in-Some.message first) in
+    record {
+      some = subst (λ (m : Message). 0 < length m) (sym c.as_slice.ensures) (given_some given.0 given.1 c.in-Some.message first);
+      few = limits.words;
+      short = limits.bytes;
+    }
+
+pub returns-in-Bye-clause-session : goal.returns-in-Bye-clause-session
+returns-in-Bye-clause-session g c start input given outcomes output h j s =
+    let i = c.loop-message.invariant.session start input given outcomes output h j s in
+    let so_far = i.2.4 in
+    let m = c.in-Some.message in
+    let served = c.in-Bye.ensures.served i.2.2 i.2.3 so_far.now_is so_far.own in
+    let o = served.0 in
+    let t = served.1 in let k = served.2 in
+    let n : Next c.loop-message.decoder (g.H.Handler.after c.loop-message.handler) start input i.2.0 i.2.1 (output ++ i.0) i.2.2 i.2.3 c.next.new.self m o t k = record {
+      so_far = so_far;
+      stands = c.in-Some.ensures.stands input i.2.0 so_far.stands;
+      first = c.in-Some.ensures.first input i.2.0 so_far.stands;
+      one = subst (λ (w : Message). ServesOne i.2.3 i.2.2 w o t k) c.as_slice.ensures served.3;
+    } in (
+      i.0 ++ reply o,
+      Adds-trans (g.K.Sink.written c.args.sink.now) (g.K.Sink.written c.loop-message.sink) (g.K.Sink.written c.handle.new.sink) i.0 (reply o) i.1 served.6.1,
+      subst (λ (l : Bytes). EndsWith Quit start input l) (append_assoc output i.0 (reply o))
+          (to_quit c.loop-message.decoder (g.H.Handler.after c.loop-message.handler) (g.H.Handler.after c.handle.new.self) start input i.2.0 i.2.1 (output ++ i.0) i.2.2 i.2.3 c.next.new.self m o t k n served.4 served.5 served.6.0),
+    )
+
+pub returns-in-Failed-clause-session : goal.returns-in-Failed-clause-session
+returns-in-Failed-clause-session g c start input given outcomes output h j s =
+    let i = c.loop-message.invariant.session start input given outcomes output h j s in
+    let so_far = i.2.4 in
+    let m = c.in-Some.message in
+    let served = c.in-Failed.ensures.served i.2.2 i.2.3 so_far.now_is so_far.own in
+    let o = served.0 in
+    let t = served.1 in let k = served.2 in
+    let w = served.6 in
+    let n : Next c.loop-message.decoder (g.H.Handler.after c.loop-message.handler) start input i.2.0 i.2.1 (output ++ i.0) i.2.2 i.2.3 c.next.new.self m o t k = record {
+      so_far = so_far;
+      stands = c.in-Some.ensures.stands input i.2.0 so_far.stands;
+      first = c.in-Some.ensures.first input i.2.0 so_far.stands;
+      one = subst (λ (w : Message). ServesOne i.2.3 i.2.2 w o t k) c.as_slice.ensures served.3;
+    } in (
+      i.0 ++ w.0,
+      Adds-trans (g.K.Sink.written c.args.sink.now) (g.K.Sink.written c.loop-message.sink) (g.K.Sink.written c.handle.new.sink) i.0 w.0 i.1 w.4,
+      subst (λ (l : Bytes). EndsWith WriteFault start input l) (append_assoc output i.0 w.0)
+          (loses c.loop-message.decoder (g.H.Handler.after c.loop-message.handler) start input i.2.0 i.2.1 (output ++ i.0) i.2.2 i.2.3 c.next.new.self m o t k w.0 w.1 n served.5 w.2 w.3),
+    )
+
+pub loop-message-preserved : goal.loop-message-preserved
+loop-message-preserved g c = record {
+  session = λ start input given outcomes output h j s.
+      let i = c.loop-message.invariant.session start input given outcomes output h j s in
+      let so_far = i.2.4 in
+      let m = c.in-Some.message in
+      let served = c.in-Whole.ensures.served i.2.2 i.2.3 so_far.now_is so_far.own in
+      let o = served.0 in
+      let t = served.1 in let k = served.2 in
+      let n : Next c.loop-message.decoder (g.H.Handler.after c.loop-message.handler) start input i.2.0 i.2.1 (output ++ i.0) i.2.2 i.2.3 c.next.new.self m o t k = record {
+        so_far = so_far;
+        stands = c.in-Some.ensures.stands input i.2.0 so_far.stands;
+        first = c.in-Some.ensures.first input i.2.0 so_far.stands;
+        one = subst (λ (w : Message). ServesOne i.2.3 i.2.2 w o t k) c.as_slice.ensures served.3;
+      } in (
+        i.0 ++ reply o,
+        Adds-trans (g.K.Sink.written c.args.sink.now) (g.K.Sink.written c.loop-message.sink) (g.K.Sink.written c.handle.new.sink) i.0 (reply o) i.1 served.6.1,
+        (
+          i.2.0 ++ m ∷ [],
+          i.2.1 ++ o ∷ [],
+          t,
+          k,
+          subst (λ (l : Bytes). SoFar c.next.new.self (g.H.Handler.after c.handle.new.self) start input (i.2.0 ++ m ∷ []) (i.2.1 ++ o ∷ []) l t k) (append_assoc output i.0 (reply o))
+              (one_more c.loop-message.decoder (g.H.Handler.after c.loop-message.handler) (g.H.Handler.after c.handle.new.self) start input i.2.0 i.2.1 (output ++ i.0) i.2.2 i.2.3 c.next.new.self m o t k n served.4 served.5 served.6.0),
+        ),
+      );
+  given = let given = c.loop-message.invariant.given in (given.0, given.1 ++ c.in-Some.message ∷ [], c.in-Some.ensures.stands given.0 given.1 given.2);
+  failure = c.in-Some.ensures.failure ∙ c.loop-message.invariant.failure;
+  taken = c.in-Some.ensures.taken ∙ c.loop-message.invariant.taken;
+  faults = omega arith;
+}
+
+pub returns-clause-session : goal.returns-clause-session
+returns-clause-session g c start input given outcomes output h j s =
+    let i = c.loop-message.invariant.session start input given outcomes output h j s in
+    let so_far = i.2.4 in (
+      i.0,
+      i.1,
+      record {
+        given = i.2.0;
+        outcomes = i.2.1;
+        history = i.2.2;
+        generator = i.2.3;
+        so_far = record {
+          stands = subst (λ (l : List Message). Stands c.next.new.self input l) (append-nil i.2.0) (c.in_default.ensures.stands input i.2.0 so_far.stands);
+          serves = so_far.serves;
+          going = so_far.going;
+          written = so_far.written;
+          now_is = so_far.now_is;
+          own = so_far.own;
+        };
+        first = subst (λ (l : List Message). GivenFirst true input l) (append-nil i.2.0) (c.in_default.ensures.first input i.2.0 so_far.stands);
+        all = λ kept. c.in_default.ensures.all input i.2.0 so_far.stands (λ lost. kept (c.in_default.ensures.failure ∙ lost));
+      },
+    )

@@ -1,0 +1,7 @@
+pub mod Stage
+pub mod Written
+pub mod Own
+pub mod Stored
+pub mod Served
+pub mod Connection
+pub mod SoFar

@@ -1,0 +1,135 @@
+//! A connection, from its first byte to its end.
+ghost use Rattle.std.specs.Prelude.{◌≡◌, ◌<◌, ◌≤◌, ◌++◌, false, ◌⊎◌, List, [], Some, IfSome, IfOk, length, vec_len};
+ghost use Rattle.rand_pcg.specs.Lcg.{Lcg};
+ghost use Rattle.vs_defs.specs.Bytes.{Bytes};
+ghost use Rattle.vs_defs.specs.Stream.{Message};
+ghost use Rattle.vs_defs.specs.Reply.{Outcome, fault_line as fault_line_of};
+ghost use Rattle.vs_defs.specs.PlainMachine.{PlainHistory};
+ghost use Rattle.vs_outside.specs.Known.{Adds, in_front, NothingLeft};
+ghost use Rattle.vs_resp.specs.Stands.{Stands, failure, bytes_taken, fault_of};
+ghost use Rattle.vs_connection.specs.Written.{WrittenOf};
+ghost use Rattle.vs_connection.specs.Connection.{EndsWith};
+ghost use Rattle.vs_connection.specs.SoFar.{SoFar, AllAnswered, HasGiven};
+
+use crate::SessionEnd;
+use crate::handler::{Handler, Replied};
+use crate::write::write_all;
+use std::alloc::Global;
+use vs_outside::{NoMemory, Sink, Source, Took};
+use vs_reply::fault_line;
+use vs_resp::{Decoder, Fault, FeedError};
+
+// Answers each message that is ready, until a QUIT or a failed write.
+fn answer_all<H: Handler, K: Sink>(
+    decoder: &mut Decoder,
+    handler: &mut H,
+    sink: &mut K,
+) -> Option<SessionEnd>
+    requires given { HasGiven decoder.old }
+    ensures given { HasGiven decoder.new }
+    ensures session { (start : Lcg) (input : Bytes) (given : List Message) (outcomes : List Outcome) (output : Bytes) (h : PlainHistory) (g : Lcg) →
+        SoFar decoder.old (H.after handler.old) start input given outcomes output h g →
+        (more : Bytes) × Adds (K.written sink.old) more (K.written sink.new) × AllAnswered result decoder.new (H.after handler.new) start input (output ++ more) }
+    ensures failure { failure decoder.new ≡ failure decoder.old }
+    ensures taken { bytes_taken decoder.new ≡ bytes_taken decoder.old }
+    ensures ends { IfSome result (λ end. (end ≡ SessionEnd.Quit) ⊎ (end ≡ SessionEnd.WriteFault)) }
+    ensures faults { K.faults sink.old ≤ K.faults sink.new }
+    ensures failed { result ≡ Some SessionEnd.WriteFault → K.faults sink.old < K.faults sink.new }
+{
+    while let Some(message) = decoder.next() {
+        match handler.handle(message.as_slice(), sink) {
+            Replied::Whole => {}
+            Replied::Bye => return Some(SessionEnd::Quit),
+            Replied::Failed => return Some(SessionEnd::WriteFault),
+        }
+    }
+    None
+}
+
+const SPENT: u64 = 1 << 62;
+
+// Whether a protocol fault's line was written whole.
+fn write_fault<K: Sink>(fault: Fault, at: u64, sink: &mut K) -> bool
+    ensures written { WrittenOf (K.written sink.old) (fault_line_of (fault_of fault) at) result (K.written sink.new) }
+    ensures faults { K.faults sink.old ≤ K.faults sink.new }
+    ensures failed { result ≡ false → K.faults sink.old < K.faults sink.new }
+{
+    let line = fault_line(fault, at);
+    write_all(sink, line.as_slice())
+}
+
+// Serves a connection through this buffer.
+fn serve_with<H: Handler, S: Source, K: Sink>(
+    alloc: Global,
+    handler: &mut H,
+    buffer: &mut [u8],
+    source: &mut S,
+    sink: &mut K,
+) -> SessionEnd
+    requires some { 0 < length buffer.old }
+    requires few { length buffer.old < 65536 }
+    ensures session { (g : Lcg) → H.after handler.old [] g → (input : Bytes) × (output : Bytes) × (S.left source.old ≡ in_front input (S.left source.new))
+        × Adds (K.written sink.old) output (K.written sink.new) × EndsWith result g input output }
+    ensures end { (result ≡ SessionEnd.Ended) ⊎ (result ≡ SessionEnd.CutShort) → NothingLeft (S.left source.new) }
+    ensures read_fault { result ≡ SessionEnd.ReadFault → S.faults source.old < S.faults source.new }
+    ensures write_fault { result ≡ SessionEnd.WriteFault → K.faults sink.old < K.faults sink.new }
+{
+    let mut decoder = Decoder::new(alloc);
+    let mut taken: u64 = 0;
+    while taken < SPENT {
+        let n = match source.read(buffer) {
+            Took::Bytes(n) => n,
+            Took::Failed => return SessionEnd::ReadFault,
+            Took::End => {
+                if decoder.at_border() {
+                    return SessionEnd::Ended;
+                }
+                return SessionEnd::CutShort;
+            }
+        };
+        taken += n as u64;
+        let fed = decoder.feed(&buffer[..n]);
+        if let Some(end) = answer_all(&mut decoder, handler, sink) {
+            return end;
+        }
+        match fed {
+            Ok(()) => {}
+            Err(error) => match error {
+                FeedError::NoMemory => return SessionEnd::NoMemory,
+                FeedError::Protocol { fault, at } => {
+                    if write_fault(fault, at, sink) {
+                        return SessionEnd::Protocol { fault, at };
+                    }
+                    return SessionEnd::WriteFault;
+                }
+            },
+        }
+    }
+    SessionEnd::Spent
+}
+
+fn make_room(alloc: Global, size: usize) -> Result<Vec<u8>, NoMemory>
+    ensures { IfOk result (λ room. vec_len room ≡ size) }
+{
+    vec![in alloc; 0u8; size]
+}
+
+/// Serves one connection by this handler, which stands before its first change. Each message is answered, and its reply written whole,
+/// before the next one is looked at. Reads take at most 16,384 bytes.
+pub fn serve_by<H: Handler, S: Source, K: Sink>(
+    alloc: Global,
+    handler: &mut H,
+    source: &mut S,
+    sink: &mut K,
+) -> SessionEnd
+    ensures session { (g : Lcg) → H.after handler.old [] g → (input : Bytes) × (output : Bytes) × (S.left source.old ≡ in_front input (S.left source.new))
+        × Adds (K.written sink.old) output (K.written sink.new) × EndsWith result g input output }
+    ensures end { (result ≡ SessionEnd.Ended) ⊎ (result ≡ SessionEnd.CutShort) → NothingLeft (S.left source.new) }
+    ensures read_fault { result ≡ SessionEnd.ReadFault → S.faults source.old < S.faults source.new }
+    ensures write_fault { result ≡ SessionEnd.WriteFault → K.faults sink.old < K.faults sink.new }
+{
+    match make_room(alloc, 16_384) {
+        Ok(mut room) => serve_with(alloc, handler, &mut room, source, sink),
+        Err(_) => SessionEnd::NoMemory,
+    }
+}

@@ -1,6 +1,0 @@
-use Rattle.std.proofs.Common.{rules}
-use Rattle.vs_graph_tests.specs.Members.{is_second}
-use Rattle.vs_graph_tests.proofs.searching.search_second.Goals as goal
-
-pub search_word-requires-clause-answers : goal.search_word-requires-clause-answers
-search_word-requires-clause-answers g c = ∣ (is_second, search rules) ∣₁

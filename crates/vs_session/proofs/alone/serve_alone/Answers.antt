@@ -1,0 +1,10 @@
+use Rattle.std.proofs.Common.{◌∙◌, ap, sym, refl}
+use Rattle.vs_defs.specs.Store.{empty_store}
+use Rattle.vs_session_defs.specs.Words.{generator}
+use Rattle.vs_session.proofs.alone.serve_alone.Goals as goal
+
+pub returns-clause-session : goal.returns-clause-session
+returns-clause-session g c = c.serve_by.ensures.session (generator c.args.seed 0) (record {
+  stored = record { own = record { legal = tt; by_one = refl }; store_is = sym (c.new-server.ensures.machine ∙ c.new-store.ensures ∙ ap empty_store c.usual.ensures) };
+  words = c.new-server.ensures.generator ∙ c.generator.ensures;
+})

@@ -1,0 +1,40 @@
+//! A connection alone, over a store of its own.
+ghost use Rattle.std.specs.Prelude.{◌≡◌, ◌<◌, ◌⊎◌};
+ghost use Rattle.vs_defs.specs.Bytes.{Bytes};
+ghost use Rattle.vs_session_defs.specs.Words.{generator as generator_of};
+ghost use Rattle.vs_outside.specs.Known.{Adds, in_front, NothingLeft};
+ghost use Rattle.vs_connection.specs.Connection.{EndsWith};
+
+use crate::{Machine, Server};
+use std::alloc::Global;
+use vs_command::{Answer, Refusal, Request};
+use vs_connection::{SessionEnd, generator, serve_by};
+use vs_outside::{Sink, Source};
+use vs_plain_store::{Limits, Store};
+
+impl Machine for Store {
+    ghost store = { λ s. s };
+
+    fn do_now(&mut self, request: Request, words: &[u32]) -> Result<Answer, Refusal> {
+        Store::do_now(self, request, words)
+    }
+}
+
+/// Serves one connection by a fresh store of the usual limits. The drawn words are those of the stream 0 of the seed.
+/// Each message is answered, and its reply written whole, before the next one is looked at.
+pub fn serve_alone<S: Source, K: Sink>(
+    alloc: Global,
+    seed: u64,
+    source: &mut S,
+    sink: &mut K,
+) -> SessionEnd
+    ensures session { (input : Bytes) × (output : Bytes) × (S.left source.old ≡ in_front input (S.left source.new))
+        × Adds (K.written sink.old) output (K.written sink.new) × EndsWith result (generator_of seed 0) input output }
+    ensures end { (result ≡ SessionEnd.Ended) ⊎ (result ≡ SessionEnd.CutShort) → NothingLeft (S.left source.new) }
+    ensures read_fault { result ≡ SessionEnd.ReadFault → S.faults source.old < S.faults source.new }
+    ensures write_fault { result ≡ SessionEnd.WriteFault → K.faults sink.old < K.faults sink.new }
+{
+    let store = Store::new(alloc, Limits::usual());
+    let mut server = Server::new(alloc, store, generator(seed, 0));
+    serve_by(alloc, &mut server, source, sink)
+}
