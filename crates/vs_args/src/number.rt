@@ -2,21 +2,11 @@
 ghost use Rattle.std.specs.Prelude.{◌≡◌, ◌≤◌, ◌-◌, ◌^◌, ◌&&◌, true, cond, nat_le, Some, None, is_some};
 ghost use Rattle.std.specs.List.{list_all};
 ghost use Rattle.std.specs.Char.{is_ascii_digit};
-ghost use Rattle.vs_defs.specs.Numeral.{is_digits, begins_with};
+ghost use Rattle.vs_defs.specs.Numeral.{begins_with};
 ghost use Rattle.vs_defs.specs.Decimal.{number_of};
 ghost use Rattle.vs_defs.specs.ProgramWords.{is_plain_number};
 
-fn has_digits_alone(text: &[u8]) -> bool
-    ensures { result ≡ list_all is_ascii_digit text.now }
-{
-    text.iter().all(|c| c.is_ascii_digit())
-}
-
-fn has_digits(text: &[u8]) -> bool
-    ensures { result ≡ is_digits text.now }
-{
-    !text.is_empty() && has_digits_alone(text)
-}
+use vs_decimal::digits::is_digits;
 
 fn begins_with_zero(text: &[u8]) -> bool
     ensures { result ≡ begins_with 48 text.now }
@@ -31,7 +21,7 @@ fn begins_with_zero(text: &[u8]) -> bool
 fn is_plain(text: &[u8]) -> bool
     ensures { result ≡ is_plain_number text.now }
 {
-    has_digits(text) && (!begins_with_zero(text) || text.len() == 1)
+    is_digits(text) && (!begins_with_zero(text) || text.len() == 1)
 }
 
 /// The number that digits spell, where 64 bits hold it.

@@ -2,42 +2,10 @@
 #![tactic(auto)]
 
 ghost use Rattle.std.specs.Prelude.{◌≡◌, ◌≤◌, length, option_map, cond, Some, None};
-ghost use Rattle.vs_defs.specs.Numeral.{digits_of, after_digits, unsigned as unsigned_of, without, is_empty};
+ghost use Rattle.vs_defs.specs.Numeral.{digits_of, after_digits, is_empty};
 ghost use Rattle.vs_defs.specs.Json.{is_whole_part as is_whole, after_fraction as past_fraction, after_exponent as past_exponent, after_number as past_number};
 
-/// How many digits a text begins with.
-fn digits_len(text: &[u8]) -> usize
-    ensures value { result ≡ length (digits_of text.now) }
-    ensures bound { result ≤ length text.now }
-{
-    text.iter().take_while(|c| c.is_ascii_digit()).count()
-}
-
-/// A text at the end of the digits that it begins with.
-fn split_digits(text: &[u8]) -> (&[u8], &[u8])
-    ensures digits { result.0.now ≡ digits_of text.now }
-    ensures rest { result.1.now ≡ after_digits text.now }
-{
-    text.split_at(digits_len(text))
-}
-
-fn without_minus(text: &[u8]) -> &[u8]
-    ensures { result.now ≡ without 45 text.now }
-{
-    match text {
-        [b'-', rest @ ..] => rest,
-        _ => text,
-    }
-}
-
-fn without_sign(text: &[u8]) -> &[u8]
-    ensures { result.now ≡ unsigned_of text.now }
-{
-    match text {
-        [b'+' | b'-', rest @ ..] => rest,
-        _ => text,
-    }
-}
+use vs_decimal::digits::{split_digits, unsigned, without_minus};
 
 /// Whether digits are those of a whole number: one or more, of which only a
 /// lone one is a leading zero.
@@ -51,7 +19,7 @@ fn is_whole_part(digits: &[u8]) -> bool
     }
 }
 
-/// The text behind one or more digits.
+/// The text after one or more digits.
 fn after_some_digits(text: &[u8]) -> Option<&[u8]>
     ensures { option_map (λ r. r.now) result ≡ cond (is_empty (digits_of text.now)) None (Some (after_digits text.now)) }
 {
@@ -62,7 +30,7 @@ fn after_some_digits(text: &[u8]) -> Option<&[u8]>
     Some(rest)
 }
 
-/// The text behind a fraction, if one stands there.
+/// The text after a fraction; all of it where there is none.
 fn after_fraction(text: &[u8]) -> Option<&[u8]>
     ensures { option_map (λ r. r.now) result ≡ past_fraction text.now }
 {
@@ -72,17 +40,17 @@ fn after_fraction(text: &[u8]) -> Option<&[u8]>
     }
 }
 
-/// The text behind an exponent, if one stands there.
+/// The text after an exponent; all of it where there is none.
 fn after_exponent(text: &[u8]) -> Option<&[u8]>
     ensures { option_map (λ r. r.now) result ≡ past_exponent text.now }
 {
     match text {
-        [b'e' | b'E', rest @ ..] => after_some_digits(without_sign(rest)),
+        [b'e' | b'E', rest @ ..] => after_some_digits(unsigned(rest)),
         _ => Some(text),
     }
 }
 
-/// The text behind a number.
+/// The text after a number.
 pub fn after_number(text: &[u8]) -> Option<&[u8]>
     ensures { option_map (λ r. r.now) result ≡ past_number text.now }
 {

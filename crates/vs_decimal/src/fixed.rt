@@ -7,7 +7,7 @@ ghost use Rattle.std.specs.Char.{is_ascii_digit};
 ghost use Rattle.vs_defs.specs.Numeral.{without};
 ghost use Rattle.vs_defs.specs.Decimal.{read_fixed as fixed_in, billionths_of, is_fraction_part as is_fraction, negated};
 
-use crate::number::{is_digits_within, is_negative, number, split_digits, without_minus};
+use crate::digits::{is_digits_within, is_negative, number, split_digits, without_minus};
 
 /// How many billionths one is.
 const BILLION: u64 = 1_000_000_000;

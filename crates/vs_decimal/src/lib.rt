@@ -1,8 +1,8 @@
 //! Decimal texts: numbers that are read from bytes, and the printed score.
 #![tactic(auto)]
 
+pub mod digits;
 mod fixed;
-mod number;
 mod score;
 mod whole;
 

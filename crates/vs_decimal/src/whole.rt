@@ -4,7 +4,7 @@
 ghost use Rattle.std.specs.Prelude.{◌≡◌, ◌≤◌, ◌<◌, ◌^◌, ◌&&◌, cond, nat_le, nat_lt, Some, None};
 ghost use Rattle.vs_defs.specs.Decimal.{read_int as int_in, negated};
 
-use crate::number::{is_digits_within, is_negative, number, without_minus};
+use crate::digits::{is_digits_within, is_negative, number, without_minus};
 
 /// The number of this size and sign, where 64 bits hold it.
 fn signed(negative: bool, size: u64) -> Option<i64>

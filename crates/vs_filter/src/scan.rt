@@ -2,12 +2,13 @@
 ghost use Rattle.std.specs.Prelude.{◌≡◌, ◌≤◌, ◌<◌, ◌+◌, ◌^◌, ℕ, length, IfOk, IfSome, take, ◌-◌};
 ghost use Rattle.vs_defs.specs.FilterText.{is_space, begins_word, is_word_byte, word_of, after_word, word_token, after_decimals, after_exponent, after_numeral, begins_with_word, sign_token, mark_token, quoted_at, quoted_token as quoted_front, skip_space as space_skipped, tokens_of as tokens_in, token_at as token_in, is_last};
 ghost use Rattle.vs_defs.specs.FilterText.{Numeral as numeral_seen};
-ghost use Rattle.vs_defs.specs.Numeral.{digits_of, after_digits, unsigned as unsigned_in};
+ghost use Rattle.vs_defs.specs.Numeral.{after_digits};
 ghost use Rattle.vs_filter.specs.Seen.{token_seen, tokens_seen, quoted_seen, front_seen, sign_front};
 
 use crate::operator::Operator;
 use crate::token::{Placed, Token};
 use std::alloc::Global;
+use vs_decimal::digits::{digits_len, unsigned};
 use vs_outside::{List, NoMemory, Text};
 
 fn is_space(byte: u8) -> bool
@@ -65,29 +66,12 @@ fn word_token<'a>(word: &[u8]) -> Token<'a>
     }
 }
 
-fn digits_len(text: &[u8]) -> usize
-    ensures value { result ≡ length (digits_of text.now) }
-    ensures bound { result ≤ length text.now }
-{
-    text.iter().take_while(|c| c.is_ascii_digit()).count()
-}
-
 fn after_digits(text: &[u8]) -> &[u8]
     ensures value { result.now ≡ after_digits text.now }
     ensures bound { length result.now ≤ length text.now }
 {
     let (_, rest) = text.split_at(digits_len(text));
     rest
-}
-
-fn unsigned(text: &[u8]) -> &[u8]
-    ensures value { result.now ≡ unsigned_in text.now }
-    ensures bound { length result.now ≤ length text.now }
-{
-    match text {
-        [b'+' | b'-', rest @ ..] => rest,
-        _ => text,
-    }
 }
 
 /// What follows a point and digits, where they stand at the front.

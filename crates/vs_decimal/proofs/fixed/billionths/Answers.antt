@@ -1,5 +1,5 @@
 use Rattle.std.proofs.Common.{◌≤◌, length, rules}
-use Rattle.vs_decimal.proofs.Digits.{number_of_padded, below_one}
+use Rattle.vs_decimal.proofs.DigitLists.{number_of_padded, below_one}
 use Rattle.vs_decimal.proofs.fixed.billionths.Goals as goal
 
 pub returns-clause-value : goal.returns-clause-value

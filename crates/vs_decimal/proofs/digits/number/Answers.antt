@@ -1,7 +1,7 @@
 use Rattle.std.proofs.Common.{arith}
 use Rattle.std.proofs.lemmas.Grind.{common_steps, pow_more}
-use Rattle.vs_decimal.proofs.Digits.{digit_at, tens_within}
-use Rattle.vs_decimal.proofs.number.number.Goals as goal
+use Rattle.vs_decimal.proofs.DigitLists.{digit_at, tens_within}
+use Rattle.vs_decimal.proofs.digits.number.Goals as goal
 
 pub overflow_mul-size : goal.overflow_mul-size
 overflow_mul-size c =

@@ -1,6 +1,6 @@
 use Rattle.std.proofs.Common.{◌≡◌, ◌<◌, ◌^◌, take}
 use Rattle.vs_defs.specs.Decimal.{number_of}
-use Rattle.vs_decimal.proofs.number.number.Given as goal
+use Rattle.vs_decimal.proofs.digits.number.Given as goal
 
 abbrev pub invariant-loop-digit : goal.invariant-loop-digit
 invariant-loop-digit l = record {
