@@ -1,18 +1,12 @@
 -- The laws of sorting, at keys.
-use Rattle.std.proofs.Common.{◌≡◌, ℕ, zero, suc, ◌<◌, ◌≤◌, Bool, true, false, cond, List, [], ◌∷◌, ◌++◌, length, get_or, take, refl, sym, ap, ◌∙◌, subst, arith, inl, inr}
-use Rattle.std.proofs.lemmas.Bool.{cases_lt}
-use Rattle.std.specs.Prelude.{filter, Option, Some, None, IsSome, IfSome, ◌↔◌, ◌-◌, ◌&&◌, nat_le}
-use Rattle.std.specs.Option.{option_map_or, option_copied}
-use denote.Ref.{Bor}
-use Rattle.std.specs.BinaryHeap.{heap_items, heap_len, IsHeap, IsUpperBound, PopsGreatest}
-use Rattle.std.specs.declared.collections.binary_heap.BinaryHeap.{BinaryHeap}
-use Rattle.std.proofs.Common.{Global}
+use Rattle.std.proofs.Common.{◌≡◌, ℕ, zero, suc, ◌<◌, Bool, true, false, cond, List, [], ◌∷◌, ◌++◌, length, take, refl, sym, ◌∙◌, arith}
+use Rattle.std.specs.Prelude.{filter}
+use Rattle.std.specs.Option.{option_map_or}
 use Rattle.std.specs.List.{AllByRecursion}
 use Rattle.std.specs.List.Sorted.{IsPermutation}
 use Rattle.std.specs.Ordering.{is_gt, is_lt}
 use Rattle.std.proofs.lemmas.Bool.Decides.{nat_tests}
 use Rattle.std.proofs.lemmas.List.Elements.{All-from_recursion}
-use Rattle.std.proofs.lemmas.List.Sorted.{length_permutation}
 use Rattle.vs_rank.specs.declared.Key.{Key}
 use Rattle.vs_rank.specs.Ranked.{key_cmp, key_lt, with_key, sorted_keys, worst_of, Least, is_beyond}
 use Rattle.vs_rank.specs.Ranked as ranked
@@ -105,66 +99,6 @@ pub front_with : (p : Key → Bool) (n : ℕ) (keys : List Key) (key : Key)
     → take n (filter p (sorted_keys (keys ++ key ∷ []))) ≡ cond (p key) (take n (with_key (take n (filter p (sorted_keys keys))) key)) (take n (filter p (sorted_keys keys)))
 front_with p n keys key = sorted.front_with key_cmp key_order p n keys key
 
--- ---- a heap of keys
-
-pub heap_long : (h : BinaryHeap Key Global) → heap_len h ≡ length (heap_items h)
-heap_long h = h.data.ok.0
-
-pub worst_is_top : (h : BinaryHeap Key Global) (x : Key) → 0 < heap_len h → x ≡ get_or (heap_items h) 0 x → IsUpperBound key_cmp x (heap_items h) → worst_of (sorted_keys (heap_items h)) ≡ Some x
-worst_is_top h x pos e a = sorted.top_is_last key_cmp key_order x (heap_items h) (omega (arith, heap_long h)) e a
-
-pub kept_long : (h : BinaryHeap Key Global) → length (sorted_keys (heap_items h)) ≡ heap_len h
-kept_long h = length_permutation (heap_items h) (sorted_keys (heap_items h)) (same_sorted (heap_items h)) ∙ sym (heap_long h)
-
--- ---- what a `Best` does, by its heap
-
-not_below : (most n : ℕ) → n < most → nat_le most n ≡ false
-not_below most n h = grind (arith, nat_tests)
-
-at_most : (most n : ℕ) → most ≤ n → nat_le most n ≡ true
-at_most most n h = grind (arith, nat_tests)
-
-pub beyond_full : (h : BinaryHeap Key Global) (key worst : Key) (most spare : ℕ) → most ≤ heap_len h → worst_of (sorted_keys (heap_items h)) ≡ Some worst
-    → is_beyond (record { most = most; keys = sorted_keys (heap_items h); spare = spare }) key ≡ key_lt worst key
-beyond_full h key worst most spare full is = λ t. at_most most (length (sorted_keys (heap_items h))) (omega (arith, kept_long h)) t && option_map_or (λ last. key_lt last key) (is t) false
-
-pub beyond_room : (h : BinaryHeap Key Global) (key : Key) (n most spare : ℕ) → n ≡ heap_len h → n < most
-    → nat_le most n ≡ is_beyond (record { most = most; keys = sorted_keys (heap_items h); spare = spare }) key
-beyond_room h key n most spare is room =
-    not_below most n room
-    ∙ sym (ap (λ b. b && option_map_or (λ last. key_lt last key) (worst_of (sorted_keys (heap_items h))) false) (not_below most (length (sorted_keys (heap_items h))) (omega (arith, kept_long h))))
-
-pub popped : (h k : BinaryHeap Key Global) (r : Option Key) → IsHeap key_cmp (heap_items h) → IsSome r
-    → IfSome r (λ x. IsPermutation (heap_items h) (x ∷ heap_items k)) → IfSome r (λ x. PopsGreatest key_cmp (heap_items h) x (heap_items k))
-    → sorted_keys (heap_items k) ≡ take (length (sorted_keys (heap_items h)) - 1) (sorted_keys (heap_items h))
-popped h k None heap some same greatest = absurd (sorted.not_both false some refl)
-popped h k (Some x) heap some same greatest = sorted.without_top key_cmp key_order x (heap_items h) (heap_items k) same (greatest heap).1
-
-none_kept : (items : List Key) → length items ≡ 0 → None ≡ worst_of (sorted_keys items)
-none_kept [] h = refl
-none_kept (x ∷ xs) h = absurd (omega arith)
-
 pub some_kept : (keys : List Key) (key : Key) → option_map_or (λ worst. key_lt key worst) (worst_of keys) false ≡ true → 0 < length keys
 some_kept [] key h = absurd (sorted.not_both false h refl)
 some_kept (x ∷ xs) key h = omega arith
-
-pub peeked : (h : BinaryHeap Key Global) (r : Option (Bor Key)) → IsHeap key_cmp (heap_items h) → (IsSome r ↔ (0 < heap_len h))
-    → IfSome r (λ x. x.now ≡ get_or (heap_items h) 0 x.now) → IfSome r (λ x. IsHeap key_cmp (heap_items h) → IsUpperBound key_cmp x.now (heap_items h))
-    → option_copied r ≡ worst_of (sorted_keys (heap_items h))
-peeked h None heap some at greatest = elim (cases_lt 0 (heap_len h)) [
-  | inl pos ↦ absurd (sorted.not_both false (some.1 pos) refl)
-  | inr under ↦ none_kept (heap_items h) (omega (arith, heap_long h))
-]
-peeked h (Some x) heap some at greatest = sym (worst_is_top h x.now (some.0 refl) at (greatest heap))
-
-below_as : (key : Key) (o : Option Key) → option_map_or (λ z. is_gt (key_cmp z key)) o false ≡ option_map_or (λ worst. key_lt key worst) o false
-below_as key None = refl
-below_as key (Some z) = gt_is z key
-
-pub offered_full : (h : BinaryHeap Key Global) (least : Least) (key : Key) (r b : Bool) → (v : Least) → v ≡ least → v.keys ≡ sorted_keys (heap_items h) → length least.keys ≡ least.most
-    → r ≡ option_map_or (λ worst. key_lt key worst) (worst_of least.keys) false → r ≡ b
-    → take least.most (with_key least.keys key) ≡ cond b (with_key (take (length least.keys - 1) least.keys) key) least.keys
-offered_full h least key r b v is kept full e f =
-    let up : Ascends key_cmp least.keys = subst (Ascends key_cmp) (sym kept ∙ ap (λ (l : Least). l.keys) is) (sorted.ascends_sorted key_cmp key_order (heap_items h)) in
-    sorted.offer_full key_cmp key_order least.keys key least.most full up
-    ∙ ap (λ c. cond c (with_key (take (length least.keys - 1) least.keys) key) least.keys) (below_as key (worst_of least.keys) ∙ sym e ∙ f)

@@ -1,36 +1,60 @@
-ghost use Rattle.std.specs.Prelude.{◌≡◌, ◌≤◌, ◌<◌, ◌+◌, ◌-◌, [], take, length, OnOk, false};
-ghost use Rattle.std.specs.Option.{option_map_or};
-ghost use Rattle.vs_rank.specs.Ranked.{Least, key_lt, with_key, worst_of, is_beyond};
+ghost use Rattle.std.specs.Prelude.{◌≡◌, ◌≤◌, ◌<◌, ◌+◌, ◌-◌, [], take, length, map, OnOk, true, false};
+ghost use Rattle.std.specs.Option.{option_map_or, option_map, option_copied};
+ghost use Rattle.std.specs.Ordering.{nat_cmp};
+ghost use Rattle.std.specs.BinaryHeap.{heap_items, heap_len, heap_capacity, IsHeap};
+ghost use Rattle.vs_rank.specs.declared.Key.{Key};
+ghost use Rattle.vs_rank.specs.Ranked.{Least, TopIsReplaced, key_lt, with_key, worst_of, is_beyond, unpacked};
 
 use crate::Key;
+use crate::packed::{key_of, packed};
 use std::alloc::{AllocError, Global};
 use std::collections::BinaryHeap;
 use std::marker::Model;
 
 /// The least few of the keys that were offered: a heap with the greatest of them on top, so that
-/// an offer costs a number of steps that grows as the logarithm of their number.
+/// an offer costs a number of steps that grows as the logarithm of their number. The heap keeps each
+/// key in one number.
 #[derive(Drop)]
 pub struct Best {
-    heap: BinaryHeap<Key>,
+    heap: BinaryHeap<u64>,
+    /// Empty, with room for the keys of the heap: `into_sorted` gives it out.
+    sorted: Vec<Key>,
     most: u32,
 }
 
 impl Model for Best {
-    ghost use Rattle.std.specs.Prelude.{◌-◌, ◌≤◌};
+    ghost use Rattle.std.specs.Prelude.{◌≡◌, ◌-◌, ◌≤◌, [], map, min};
+    ghost use Rattle.std.specs.Vec.{vec_len, vec_capacity};
+    ghost use Rattle.std.specs.Ordering.{nat_cmp};
     ghost use Rattle.std.specs.BinaryHeap.{heap_items, heap_len, heap_capacity, IsHeap};
-    ghost use Rattle.vs_rank.specs.Ranked.{Least, key_cmp, sorted_keys};
+    ghost use Rattle.vs_rank.specs.Ranked.{Least, sorted_keys, unpacked};
 
     ghost Value = { Least };
 
-    ghost view = { λ b. record { most = b.most; keys = sorted_keys (heap_items b.heap); spare = heap_capacity b.heap - heap_len b.heap } };
+    ghost view = { λ b. record { most = b.most; keys = sorted_keys (map unpacked (heap_items b.heap)); spare = min (heap_capacity b.heap) (vec_capacity b.sorted) - heap_len b.heap } };
 
-    ghost invariant = { λ b. IsHeap key_cmp (heap_items b.heap) × (heap_len b.heap ≤ b.most) };
+    ghost invariant = { λ b. IsHeap nat_cmp (heap_items b.heap) × (heap_len b.heap ≤ b.most) × (heap_len b.heap ≤ vec_capacity b.sorted) × (b.sorted.items ≡ []) };
 }
 
-fn is_less(one: Key, other: Key) -> bool
-    ensures { result ≡ key_lt one other }
+fn key_seen(top: Option<&u64>) -> Option<Key>
+    ensures { result ≡ option_map unpacked (option_copied top.entry) }
 {
-    one.dist < other.dist || (one.dist == other.dist && one.id < other.id)
+    match top {
+        Some(top) => Some(key_of(*top)),
+        None => None,
+    }
+}
+
+/// Puts a number in the place of the greatest.
+fn replace_top(heap: &mut BinaryHeap<u64>, item: u64)
+    requires { 0 < heap_len heap.old }
+    ensures replaced { TopIsReplaced (heap_items heap.old) (heap_items heap.new) item }
+    ensures heap_order { IsHeap nat_cmp (heap_items heap.old) → IsHeap nat_cmp (heap_items heap.new) }
+    ensures len { heap_len heap.new ≡ heap_len heap.old }
+    ensures capacity { heap_capacity heap.new ≡ heap_capacity heap.old }
+{
+    let mut top = heap.peek_mut().unwrap();
+    *top = item;
 }
 
 impl Best {
@@ -41,6 +65,7 @@ impl Best {
     {
         Best {
             heap: BinaryHeap::new(alloc),
+            sorted: Vec::new(alloc),
             most,
         }
     }
@@ -51,21 +76,22 @@ impl Best {
         ensures ok { OnOk result (more ≤ self.new.spare) }
         ensures room { self.old.spare ≤ self.new.spare }
     {
-        self.heap.reserve(more as usize)
+        self.heap.reserve(more as usize)?;
+        self.sorted.reserve(self.heap.len() + more as usize)
     }
 
-    /// It takes no memory.
+    /// It takes no memory. What is beyond the kept keys stays beyond them.
     pub fn offer(&mut self, key: Key)
         requires { 0 < self.old.spare }
         ensures keys { self.new.keys ≡ take self.old.most (with_key self.old.keys key) }
         ensures most { self.new.most ≡ self.old.most }
         ensures room { self.old.spare ≤ self.new.spare + 1 }
+        ensures beyond { (other : Key) → is_beyond self.old other ≡ true → is_beyond self.new other ≡ true }
     {
         if self.heap.len() < self.most as usize {
             self.insert(key);
         } else if self.is_below_worst(key) {
-            self.remove_worst();
-            self.insert(key);
+            self.replace_worst(key);
         }
     }
 
@@ -76,26 +102,26 @@ impl Best {
         ensures most { self.new.most ≡ self.old.most }
         ensures room { self.old.spare ≤ self.new.spare + 1 }
     {
-        match self.heap.push(key) {
+        match self.heap.push(packed(key)) {
             Ok(()) => {}
             Err(_) => unreachable!(),
         }
     }
 
-    fn remove_worst(&mut self)
+    fn replace_worst(&mut self, key: Key)
         requires { 0 < length self.old.keys }
-        ensures keys { self.new.keys ≡ take (length self.old.keys - 1) self.old.keys }
+        ensures keys { self.new.keys ≡ with_key (take (length self.old.keys - 1) self.old.keys) key }
         ensures most { self.new.most ≡ self.old.most }
-        ensures room { self.old.spare + 1 ≤ self.new.spare }
+        ensures room { self.old.spare ≤ self.new.spare }
     {
-        self.heap.pop();
+        replace_top(&mut self.heap, packed(key));
     }
 
     fn is_below_worst(&self, key: Key) -> bool
         ensures { result ≡ option_map_or (λ worst. key_lt key worst) (worst_of self.now.keys) false }
     {
         match self.heap.peek() {
-            Some(worst) => is_less(key, *worst),
+            Some(worst) => packed(key) < *worst,
             None => false,
         }
     }
@@ -104,7 +130,7 @@ impl Best {
     pub fn worst(&self) -> Option<Key>
         ensures { result ≡ worst_of self.now.keys }
     {
-        self.heap.peek().copied()
+        key_seen(self.heap.peek())
     }
 
     /// Whether every place is taken by a lesser key.
@@ -112,7 +138,7 @@ impl Best {
         ensures { result ≡ is_beyond self.now key }
     {
         match self.heap.peek() {
-            Some(worst) => self.heap.len() >= self.most as usize && is_less(*worst, key),
+            Some(worst) => self.heap.len() >= self.most as usize && *worst < packed(key),
             None => false,
         }
     }
@@ -121,7 +147,14 @@ impl Best {
     pub fn into_sorted(self) -> Vec<Key>
         ensures { result.items ≡ self.keys }
     {
-        let Best { heap, most: _ } = self;
-        heap.into_sorted_vec()
+        let Best {
+            heap,
+            mut sorted,
+            most: _,
+        } = self;
+        for number in &heap.into_sorted_vec() {
+            sorted.push_reserved(key_of(*number));
+        }
+        sorted
     }
 }

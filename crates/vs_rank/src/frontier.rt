@@ -2,25 +2,26 @@ ghost use Rattle.std.specs.Prelude.{◌≡◌, ◌≤◌, ◌<◌, ◌+◌, [], 
 ghost use Rattle.vs_rank.specs.Ranked.{Queue, key_lt};
 
 use crate::Key;
+use crate::packed::{key_of, packed};
 use std::alloc::{AllocError, Global};
 use std::cmp::Reverse;
 use std::collections::BinaryHeap;
 use std::marker::Model;
 
-/// Keys of which the least comes first.
+/// Keys of which the least comes first. The heap keeps each key in one number.
 #[derive(Drop)]
 pub struct Frontier {
-    heap: BinaryHeap<Reverse<Key>>,
+    heap: BinaryHeap<Reverse<u64>>,
 }
 
 impl Model for Frontier {
     ghost use Rattle.std.specs.Prelude.{◌-◌, map};
     ghost use Rattle.std.specs.BinaryHeap.{heap_items, heap_len, heap_capacity, IsHeap};
-    ghost use Rattle.vs_rank.specs.Ranked.{Queue, reverse_cmp};
+    ghost use Rattle.vs_rank.specs.Ranked.{Queue, reverse_cmp, unpacked};
 
     ghost Value = { Queue };
 
-    ghost view = { λ f. record { keys = map (λ x. x.0) (heap_items f.heap); spare = heap_capacity f.heap - heap_len f.heap } };
+    ghost view = { λ f. record { keys = map (λ x. unpacked x.0) (heap_items f.heap); spare = heap_capacity f.heap - heap_len f.heap } };
 
     ghost invariant = { λ f. IsHeap (λ x y. reverse_cmp x.0 y.0) (heap_items f.heap) };
 }
@@ -47,7 +48,7 @@ impl Frontier {
         ensures keys { IsPermutation (key ∷ self.old.keys) self.new.keys }
         ensures room { self.old.spare ≤ self.new.spare + 1 }
     {
-        match self.heap.push(Reverse(key)) {
+        match self.heap.push(Reverse(packed(key))) {
             Ok(()) => {}
             Err(_) => unreachable!(),
         }
@@ -61,7 +62,7 @@ impl Frontier {
         ensures room { self.old.spare ≤ self.new.spare }
     {
         match self.heap.pop() {
-            Some(Reverse(key)) => Some(key),
+            Some(Reverse(number)) => Some(key_of(number)),
             None => None,
         }
     }

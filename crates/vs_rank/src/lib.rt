@@ -4,6 +4,7 @@
 
 mod best;
 mod frontier;
+mod packed;
 mod testing;
 #[cfg(test)]
 mod tests;

@@ -1,15 +1,14 @@
-use Rattle.std.proofs.Common.{◌≡◌, length, heap_items, arith, ap, ◌∙◌, sym}
-use Rattle.vs_rank.specs.Ranked.{Least, key_cmp, with_key, sorted_keys}
-use Rattle.vs_rank.proofs.Keys.{key_order, kept_long}
-use Rattle.vs_rank.proofs.Sorted.{sort_permuted}
+use Rattle.std.proofs.Common.{◌≡◌, length, arith, ap, ◌∙◌}
+use Rattle.vs_rank.specs.Ranked.{Least, with_key}
+use Rattle.vs_rank.proofs.Numbers.{kept, kept_long, kept_more}
 use Rattle.vs_rank.proofs.best.Best.insert.Goals as goal
 
 pub invariant_of-self : goal.invariant_of-self
 invariant_of-self c =
-    let long : length (sorted_keys (heap_items c.self.inside.heap)) ≡ length c.args.self.now.keys = ap (λ (l : Least). length l.keys) c.self.view_is in
+    let long : length (kept c.self.inside.heap) ≡ length c.args.self.now.keys = ap (λ (l : Least). length l.keys) c.self.view_is in
     let most : c.self.inside.most ≡ c.args.self.now.most = ap (λ (l : Least). l.most) c.self.view_is in
-    (c.in-Ok.ensures.heap_order c.self.invariant.0, omega (arith, kept_long c.self.inside.heap, c.in-Ok.ensures.len))
+    (c.in-Ok.ensures.heap_order c.self.invariant.0, omega (arith, kept_long c.self.inside.heap, c.in-Ok.ensures.len), omega (arith, ap (λ (l : Least). l.spare) c.self.view_is, c.requires.room, c.in-Ok.ensures.len), c.self.invariant.3)
 
 pub returns-clause-keys : goal.returns-clause-keys
 returns-clause-keys c =
-    sym (sort_permuted key_cmp key_order _ _ c.in-Ok.ensures.permutation) ∙ ap (λ (l : Least). with_key l.keys c.args.key) c.self.view_is
+    kept_more c.self.inside.heap c.push.new.self c.packed.result c.args.key c.packed.ensures c.in-Ok.ensures.permutation ∙ ap (λ (l : Least). with_key l.keys c.args.key) c.self.view_is
