@@ -1,0 +1,6 @@
+mod MachineExample
+pub mod RunExample
+mod CoreExample
+mod Refused
+mod ScheduleExamples
+mod GeneratorExample
