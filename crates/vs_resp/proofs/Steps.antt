@@ -1,5 +1,5 @@
 -- What a decoder stands for after more bytes, and what its callers learn.
-use Rattle.std.proofs.Common.{◌≡◌, ◌<◌, ◌≤◌, ◌+◌, ◌-◌, true, List, [], ◌∷◌, ◌++◌, ℕ, length, take, drop, get_or, refl, sym, ap, subst, ◌∙◌, arith, append_assoc, append-nil, Result, take-add, Option, Some, None, IfNone}
+use Rattle.std.proofs.Common.{◌≡◌, ◌<◌, ◌≤◌, ◌+◌, ◌-◌, true, List, [], ◌∷◌, ◌++◌, ℕ, zero, suc, length, take, drop, get_or, refl, sym, ap, subst, ◌∙◌, arith, append_assoc, append-nil, length-append, Result, take-add, Option, Some, None, IfNone}
 use Rattle.std.proofs.lemmas.List.{take-append-drop}
 use Rattle.vs_resp.specs.declared.Decoder.{Decoder}
 use Rattle.vs_resp.specs.declared.Fault.{Fault}
@@ -10,8 +10,10 @@ use Rattle.vs_resp.specs.declared.FeedError.TheVariants.{NoMemory, Protocol}
 use Rattle.vs_resp.specs.Stands.{fault_of, at_stage, reader_of, NotLost, IsGoing, Stands, failure_at, answer_of, FeedMeans}
 use Rattle.vs_defs.specs.Bytes.{Bytes}
 use Rattle.vs_defs.specs.Stream.{Message}
-use Rattle.vs_stream.specs.Machine.{State, body}
-use Rattle.vs_stream.specs.Reader.{Reader, reading, reader_step, Means, WhileReading, AfterFault, AfterLoss, prefixed}
+use Rattle.vs_stream.specs.Machine.{State, start, bulk, body, body_end, after_bulk}
+use Rattle.vs_stream.specs.Reader.{Reader, reading, worded, taken, reader_step, Means, WhileReading, AfterFault, AfterLoss, prefixed}
+use Rattle.vs_resp.specs.Bulk.{IsBulk}
+use Rattle.vs_resp.proofs.WholeBulks.{leads_reading}
 use Rattle.vs_stream.specs.Given.{GivenAll, GivenFirst}
 use Rattle.vs_stream.specs.Place.{IsStream}
 use Rattle.vs_stream.proofs.Reader.{IsInside, means_step, prefixed_step, reading_body, loss_of, loss_more, fault_more, reading_begins, reading_all, fault_all, fault_place, all_first, loss_first, reading_start, reading_inside, fault_inside}
@@ -123,6 +125,36 @@ body_stands d e fed given xs n is stage within state gone count m =
     (λ kept.
     subst (λ (r : Reader). Means true e.fed (prefixed given r) (fed ++ xs)) (sym (state kept))
     (subst (λ (n' : ℕ). Means true n' (reading (given ++ d.ready.items) (body d.left d.sum d.words (d.want - n) (d.word.items ++ xs))) (fed ++ xs)) (sym count) more))
+
+-- a whole bulk, of n bytes; the decoder counts them afterwards
+pub bulk_stands : (d e : Decoder) (fed : Bytes) (given : List Message) (xs word : Bytes) (n : ℕ) → length xs ≡ n → d.stage ≡ Bulk → IsBulk xs word → d.sum + length word ≤ 4194304 →
+    (NotLost e → reader_of e ≡ taken d.fed d.ready.items (after_bulk d.left (d.sum + length word) (d.words ++ word ∷ []))) →
+    (e.stage ≡ Lost → e.ready.items ≡ d.ready.items) → e.fed ≡ d.fed → Stands d fed given → Means true (e.fed + n) (prefixed given (reader_of e)) (fed ++ xs)
+bulk_stands d e fed given xs word n is stage whole few state gone count m =
+    let going : IsGoing d.stage = subst (λ (t : Stage). IsGoing t) (sym stage) tt in
+    let ms = given ++ d.ready.items in
+    let sum = d.sum + length word in
+    let ws = d.words ++ word ∷ [] in
+    let a : WhileReading true d.fed ms (bulk d.left d.sum d.words) fed = subst (λ (r : Reader). Means true d.fed (prefixed given r) fed) (at_its_stage d Bulk stage) m in
+    let b = whole d.left d.sum d.words few in
+    let at = d.fed + length b.0 in
+    let ended = means_step true at (reading ms (body_end d.left sum d.words word)) 10 (fed ++ b.0)
+    (leads_reading d.fed ms (bulk d.left d.sum d.words) (body_end d.left sum d.words word) fed b.0 b.2 a) in
+    let all : (fed ++ b.0) ++ 10 ∷ [] ≡ fed ++ xs = append_assoc fed b.0 (10 ∷ []) ∙ ap (λ (l : Bytes). fed ++ l) (sym b.1) in
+    let bytes : length b.0 + 1 ≡ n = sym (length-append b.0 (10 ∷ [])) ∙ ap length (sym b.1) ∙ is in
+    let place : at + 1 ≡ e.fed + n = omega arith in
+    let after : Means true (e.fed + n) (taken at ms (after_bulk d.left sum ws)) (fed ++ xs) =
+    subst (λ (i : ℕ). Means true i (taken at ms (after_bulk d.left sum ws)) (fed ++ xs)) place
+    (subst (λ (l : Bytes). Means true (at + 1) (taken at ms (after_bulk d.left sum ws)) l) all ended) in
+    kept_or (Means true (e.fed + n) (prefixed given (reader_of e)) (fed ++ xs)) e.stage
+    (λ is_lost. byte_lost d e fed xs given (e.fed + n) going is_lost (gone is_lost) m)
+    (λ kept.
+    subst (λ (r : Reader). Means true (e.fed + n) (prefixed given r) (fed ++ xs)) (sym (state kept))
+    (subst (λ (r : Reader). Means true (e.fed + n) r (fed ++ xs)) (behind_bulk d.left sum ws given d.ready.items at d.fed) after)) where
+      -- no fault comes here, so the place says nothing
+      behind_bulk : (l sum : ℕ) (ws : List Bytes) (given ms : List Message) (i j : ℕ) → taken i (given ++ ms) (after_bulk l sum ws) ≡ prefixed given (taken j ms (after_bulk l sum ws))
+      behind_bulk zero sum ws given ms i j = ap (λ (all : List Message). reading all start) (append_assoc given ms (worded ws))
+      behind_bulk (suc l) sum ws given ms i j = refl
 
 -- After a fault, and after want of memory, what comes later is not looked at.
 pub stays : (d : Decoder) (fed more : Bytes) (given : List Message) → (IsGoing d.stage → ⊥) → Stands d fed given → Stands d (fed ++ more) given

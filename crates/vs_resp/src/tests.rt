@@ -35,11 +35,20 @@ fn show_message(alloc: Global, words: &[Text], shown: &mut String) -> Result<(),
     shown.push_str(" ")
 }
 
-fn show_ready(alloc: Global, decoder: &mut Decoder, shown: &mut String) -> Result<(), AllocError>
+// Shows the messages that are ready, and gives each back where `back` says so.
+fn show_ready(
+    alloc: Global,
+    decoder: &mut Decoder,
+    back: bool,
+    shown: &mut String,
+) -> Result<(), AllocError>
     ensures { bytes_taken decoder.new ≡ bytes_taken decoder.old }
 {
     while let Some(message) = decoder.next() {
         show_message(alloc, message.as_slice(), shown)?;
+        if back {
+            decoder.take_back(message);
+        }
     }
     Ok(())
 }
@@ -58,7 +67,7 @@ fn show_end(
 }
 
 // The messages and the ending of a stream that is fed in pieces of this size.
-fn outcome(alloc: Global, stream: &[u8], size: usize) -> Result<String, AllocError> {
+fn outcome(alloc: Global, stream: &[u8], size: usize, back: bool) -> Result<String, AllocError> {
     let mut decoder = Decoder::new(alloc);
     let mut shown = String::new(alloc);
     let mut last = Ok(());
@@ -66,7 +75,7 @@ fn outcome(alloc: Global, stream: &[u8], size: usize) -> Result<String, AllocErr
     'pieces: while at < stream.len() {
         let end = at + size.max(1).min(stream.len() - at);
         last = decoder.feed(&stream[at..end]);
-        show_ready(alloc, &mut decoder, &mut shown)?;
+        show_ready(alloc, &mut decoder, back, &mut shown)?;
         at = end;
     }
     let end = show_end(alloc, &decoder, last)?;
@@ -76,7 +85,7 @@ fn outcome(alloc: Global, stream: &[u8], size: usize) -> Result<String, AllocErr
 
 #[test]
 fn short_streams(rt: HostRuntime) -> Result<(), Fail> {
-    let cases: [(&[u8], &str); 41] = [
+    let cases: [(&[u8], &str); 44] = [
         (b"", "border"),
         (b"*2\r\n$4\r\nVADD\r\n$3\r\na b\r\n", "<VADD><a b> border"),
         (b"*1\r\n$0\r\n\r\n*1\r\n$2\r\n\r\n\r\n", "<> <\r\n> border"),
@@ -121,12 +130,23 @@ fn short_streams(rt: HostRuntime) -> Result<(), Fail> {
         (b"  a  b \r\n \r\n\n\r\r\n", "<a><b> <\r> border"),
         (b"a\rb\r\r\n", "<a\rb\r> border"),
         (b"PING\r", "within"),
+        (
+            b"*2\r\n$3\r\nabc\r\n$2\r\nde\r\n*3\r\n$1\r\nf\r\n$0\r\n\r\n$4\r\nghij\r\nk l\n*1\r\n$0\r\n\r\n*1\r\n$17\r\n0123456789abcdefg\r\n*1\r\n$1\r\nm\r\n",
+            "<abc><de> <f><><ghij> <k><l> <> <0123456789abcdefg> <m> border",
+        ),
+        (
+            b"*1\r\n$2\r\nab\r\n*2\r\n$1\r\nc\r\n$2\r\ndeX",
+            "<ab> BadEnd at 29",
+        ),
+        (b"*1\r\n$1\r\na\r\n*1\r\n$1\r\nbc\r\n", "<a> BadEnd at 20"),
     ];
     let alloc = rt.alloc();
     for (stream, wanted) in cases {
         for size in [1, 2, 3, 4096] {
-            let shown = outcome(alloc, stream, size)?;
-            assert_eq!(rt; shown.as_str(), wanted);
+            for back in [false, true] {
+                let shown = outcome(alloc, stream, size, back)?;
+                assert_eq!(rt; shown.as_str(), wanted);
+            }
         }
     }
     Ok(())
@@ -206,7 +226,7 @@ fn limits(rt: HostRuntime) -> Result<(), Fail> {
     for (head, part, count, end, wanted) in cases {
         let stream = repeated(alloc, head, part, count, end)?;
         for size in [1, 16384] {
-            let shown = outcome(alloc, &stream, size)?;
+            let shown = outcome(alloc, &stream, size, true)?;
             assert_eq!(rt; shown.as_str(), wanted);
         }
     }

@@ -1,0 +1,101 @@
+//! The memory of answered words, which later words take, so that most of them ask the allocator for none. What is kept stays within
+//! bounds: a long word's memory is dropped, and so is what goes beyond the bounds of all.
+ghost use Rattle.std.specs.Prelude.{◌≡◌, ◌≤◌, [], IfOk, All, map, vec_len, vec_capacity};
+ghost use Rattle.std.specs.List.{sum};
+
+use std::alloc::{AllocError, Global};
+use vs_outside::{List, Text};
+
+/// The most words whose memory is kept: those of the longest vector's message, and some more.
+const WORDS: usize = 4200;
+
+/// The most bytes of memory of one word that is kept.
+const WORD_BYTES: usize = 64;
+
+/// The most bytes of memory of all words that are kept.
+const ALL_BYTES: usize = 65_536;
+
+/// The least memory of a word, so that a somewhat longer one finds room in it.
+const LEAST_BYTES: usize = 16;
+
+/// The memory of words that are no longer needed.
+#[derive(Drop)]
+pub(crate) struct Spare {
+    alloc: Global,
+    words: Vec<Vec<u8>>,
+    bytes: usize,
+    // How many words are handed out in messages.
+    lent: usize,
+    ghost few: { vec_len words ≤ 4200 },
+    ghost short: { All (λ word. vec_capacity word ≤ 64) words.items },
+    ghost counted: { bytes ≡ sum (map vec_capacity words.items) },
+    ghost all: { bytes ≤ 65536 },
+}
+
+impl Spare {
+    /// Nothing is kept. It takes no memory.
+    pub fn new(alloc: Global) -> Spare {
+        Spare {
+            alloc,
+            words: Vec::new(alloc),
+            bytes: 0,
+            lent: 0,
+        }
+    }
+
+    /// A word without bytes, with room for so many.
+    pub fn word(&mut self, len: usize) -> Result<Vec<u8>, AllocError>
+        ensures { IfOk result (λ word. word.items ≡ []) }
+    {
+        if len > WORD_BYTES {
+            return Vec::with_capacity(self.alloc, len);
+        }
+        match self.words.pop() {
+            None => Vec::with_capacity(self.alloc, len.max(LEAST_BYTES)),
+            Some(mut word) => {
+                self.bytes -= word.capacity();
+                word.clear();
+                word.reserve_exact(len)?;
+                Ok(word)
+            }
+        }
+    }
+
+    /// A word of these bytes.
+    pub fn copy(&mut self, bytes: &[u8]) -> Result<Vec<u8>, AllocError>
+        ensures { IfOk result (λ word. word.items ≡ bytes.now) }
+    {
+        let mut word = self.word(bytes.len())?;
+        word.extend_from_slice(bytes)?;
+        Ok(word)
+    }
+
+    /// Makes room to keep the words of a message that is handed out. Where there is no memory for it, they are not kept.
+    pub fn lend(&mut self, words: usize) {
+        self.lent = self.lent.saturating_add(words);
+        let room = self.lent.min(WORDS);
+        let _made = self
+            .words
+            .reserve_exact(room.saturating_sub(self.words.len()));
+    }
+
+    /// Keeps the memory of a message's words, within the bounds. It takes no memory.
+    pub fn keep(&mut self, message: List<Text>) {
+        let mut words = message.into_vec();
+        self.lent = self.lent.saturating_sub(words.len());
+        while let Some(word) = words.pop() {
+            self.keep_word(word.into_vec());
+        }
+    }
+
+    fn keep_word(&mut self, word: Vec<u8>) {
+        let size = word.capacity();
+        if size > WORD_BYTES || self.bytes + size > ALL_BYTES {
+            return;
+        }
+        if self.words.len() < self.words.capacity().min(WORDS) {
+            self.words.push_reserved(word);
+            self.bytes += size;
+        }
+    }
+}

@@ -1,0 +1,89 @@
+//! A bulk that lies whole in a piece is found with its line ends.
+ghost use Rattle.std.specs.Prelude.{◌≡◌, ◌<◌, ◌≤◌, ◌+◌, ℕ, IsTrue, List, [], ◌∷◌, length, take, drop, IfSome};
+ghost use Rattle.vs_defs.specs.Bytes.{Bytes};
+ghost use Rattle.vs_stream.specs.Machine.{bulk, len, body};
+ghost use Rattle.vs_resp.specs.Bulk.{Leads, IsBulk};
+
+/// A number that bytes begin with, and how many bytes spell it.
+#[derive(Clone, Copy, Drop)]
+struct Number {
+    size: usize,
+    value: u32,
+}
+
+/// A bulk that lies whole at the front of a piece: its word, and how many bytes it has with its length and its line ends.
+#[derive(Clone, Copy, Drop)]
+pub(crate) struct Bulk<'a> {
+    pub word: &'a [u8],
+    pub size: usize,
+}
+
+// The digits that the bytes begin with, at most 7 of them; none where they pass the longest word.
+fn digits(bytes: &[u8]) -> Option<Number>
+    ensures spells { IfSome result (λ n. (l sum : ℕ) (ws : List Bytes) → sum + n.value ≤ 4194304 → Leads (len l sum ws 0 0) (take n.size bytes.now) (len l sum ws n.size n.value)) }
+    ensures within { IfSome result (λ n. n.size ≤ length bytes.now) }
+    ensures few { IfSome result (λ n. n.size ≤ 7) }
+    ensures value { IfSome result (λ n. n.value ≤ 65536) }
+{
+    let most = bytes.len().min(7);
+    let mut value: u32 = 0;
+    let mut size: usize = 0;
+    'digits: while size < most && bytes[size].is_ascii_digit() {
+        value = value * 10 + (bytes[size] - b'0') as u32;
+        if value > 65536 {
+            return None;
+        }
+        size += 1;
+    }
+    Some(Number { size, value })
+}
+
+// Whether a line ends there.
+fn ends_line(bytes: &[u8], at: usize) -> bool
+    requires { at ≤ length bytes.now }
+    ensures line_end { IsTrue result → take 2 (drop at bytes.now) ≡ 13 ∷ 10 ∷ [] }
+    ensures within { IsTrue result → at + 2 ≤ length bytes.now }
+{
+    match &bytes[at..] {
+        [b'\r', b'\n', ..] => true,
+        _ => false,
+    }
+}
+
+// The length that a bulk begins with, and the size of its line.
+fn length_line(bytes: &[u8]) -> Option<Number>
+    ensures leads { IfSome result (λ n. (l sum : ℕ) (ws : List Bytes) → sum + n.value ≤ 4194304 → Leads (bulk l sum ws) (take n.size bytes.now) (body l (sum + n.value) ws n.value [])) }
+    ensures within { IfSome result (λ n. n.size ≤ length bytes.now) }
+    ensures value { IfSome result (λ n. n.value ≤ 65536) }
+{
+    if bytes.is_empty() || bytes[0] != b'$' {
+        return None;
+    }
+    let rest = &bytes[1..];
+    let number = digits(rest)?;
+    if number.size == 0 || !ends_line(rest, number.size) {
+        return None;
+    }
+    Some(Number {
+        size: number.size + 3,
+        value: number.value,
+    })
+}
+
+/// The bulk at the front of these bytes, where they have it whole.
+pub(crate) fn whole_bulk(bytes: &[u8]) -> Option<Bulk>
+    ensures bulk { IfSome result (λ b. IsBulk (take b.size bytes.now) b.word.now) }
+    ensures within { IfSome result (λ b. b.size ≤ length bytes.now) }
+    ensures some { IfSome result (λ b. 0 < b.size) }
+    ensures length { IfSome result (λ b. length b.word.now ≤ 65536) }
+{
+    let line = length_line(bytes)?;
+    let end = line.size + line.value as usize;
+    if end > bytes.len() || !ends_line(bytes, end) {
+        return None;
+    }
+    Some(Bulk {
+        word: &bytes[line.size..end],
+        size: end + 2,
+    })
+}
