@@ -14,9 +14,9 @@ use Rattle.vs_stream.specs.Machine.{State, start, bulk, body, body_end, after_bu
 use Rattle.vs_stream.specs.Reader.{Reader, reading, worded, taken, reader_step, Means, WhileReading, AfterFault, AfterLoss, prefixed}
 use Rattle.vs_resp.specs.Bulk.{IsBulk}
 use Rattle.vs_resp.proofs.WholeBulks.{leads_reading}
-use Rattle.vs_stream.specs.Given.{GivenAll, GivenFirst}
+use Rattle.vs_stream.specs.Given.{GivenAll, GivenFirst, GivenBefore}
 use Rattle.vs_stream.specs.Place.{IsStream}
-use Rattle.vs_stream.proofs.Reader.{IsInside, means_step, prefixed_step, reading_body, loss_of, loss_more, fault_more, reading_begins, reading_all, fault_all, fault_place, all_first, loss_first, reading_start, reading_inside, fault_inside}
+use Rattle.vs_stream.proofs.Reader.{IsInside, means_step, prefixed_step, reading_body, loss_of, loss_more, fault_more, reading_begins, reading_all, fault_all, fault_place, all_first, loss_first, loss_before, reading_start, reading_inside, fault_inside}
 
 -- ---- the three kinds of stage
 
@@ -77,12 +77,12 @@ lost_of d fed given is m = subst (λ (r : Reader). Means true d.fed (prefixed gi
 -- ---- more bytes
 
 -- out of memory; n is the count of bytes that the decoder comes to
-byte_lost : (d e : Decoder) (fed more : Bytes) (given : List Message) (n : ℕ) → IsGoing d.stage → e.stage ≡ Lost → e.ready.items ≡ d.ready.items → Stands d fed given →
+byte_lost : (d e : Decoder) (fed more : Bytes) (given : List Message) (n : ℕ) → 1 ≤ length more → IsGoing d.stage → e.stage ≡ Lost → e.ready.items ≡ d.ready.items → Stands d fed given →
     Means true n (prefixed given (reader_of e)) (fed ++ more)
-byte_lost d e fed more given n g is ready m =
+byte_lost d e fed more given n some g is ready m =
     let a = reading_of d fed given g m in
     subst (λ (r : Reader). Means true n (prefixed given r) (fed ++ more)) (sym (at_its_stage e Lost is))
-    (subst (λ (l : List Message). AfterLoss true (given ++ l) (fed ++ more)) (sym ready) (loss_of true d.fed (given ++ d.ready.items) a.0 fed more a.1))
+    (subst (λ (l : List Message). AfterLoss true (given ++ l) (fed ++ more)) (sym ready) (loss_of true d.fed (given ++ d.ready.items) a.0 fed more some a.1))
 
 pub take_one : (xs : Bytes) → 0 < length xs → take 1 xs ≡ get_or xs 0 0 ∷ []
 take_one [] h = absurd (omega arith)
@@ -102,7 +102,7 @@ pub byte_stands : (d e : Decoder) (fed : Bytes) (given : List Message) (c : ℕ)
 byte_stands d e fed given c xs one g state gone count m =
     subst (λ (l : Bytes). Means true (e.fed + 1) (prefixed given (reader_of e)) (fed ++ l)) (sym one)
     (kept_or (Means true (e.fed + 1) (prefixed given (reader_of e)) (fed ++ c ∷ [])) e.stage
-    (λ is. byte_lost d e fed (c ∷ []) given (e.fed + 1) g is (gone is) m)
+    (λ is. byte_lost d e fed (c ∷ []) given (e.fed + 1) (omega arith) g is (gone is) m)
     (λ kept.
     subst (λ (r : Reader). Means true (e.fed + 1) (prefixed given r) (fed ++ c ∷ [])) (sym (state kept))
     (subst (λ (r : Reader). Means true (e.fed + 1) r (fed ++ c ∷ [])) (sym (prefixed_step true d.fed given (reader_of d) c))
@@ -110,10 +110,10 @@ byte_stands d e fed given c xs one g state gone count m =
     (means_step true d.fed (prefixed given (reader_of d)) c fed m)))))
 
 -- the bytes of a bulk, of which there are n
-pub body_stands : (d e : Decoder) (fed : Bytes) (given : List Message) (xs : Bytes) (n : ℕ) → length xs ≡ n → d.stage ≡ Body → n ≤ d.want →
+pub body_stands : (d e : Decoder) (fed : Bytes) (given : List Message) (xs : Bytes) (n : ℕ) → length xs ≡ n → 0 < n → d.stage ≡ Body → n ≤ d.want →
     (NotLost e → reader_of e ≡ reading d.ready.items (body d.left d.sum d.words (d.want - n) (d.word.items ++ xs))) →
     (e.stage ≡ Lost → e.ready.items ≡ d.ready.items) → e.fed ≡ d.fed + n → Stands d fed given → Stands e (fed ++ xs) given
-body_stands d e fed given xs n is stage within state gone count m =
+body_stands d e fed given xs n is some stage within state gone count m =
     let going : IsGoing d.stage = subst (λ (t : Stage). IsGoing t) (sym stage) tt in
     let a : WhileReading true d.fed (given ++ d.ready.items) (body d.left d.sum d.words d.want d.word.items) fed =
     subst (λ (r : Reader). Means true d.fed (prefixed given r) fed) (at_its_stage d Body stage) m in
@@ -121,7 +121,7 @@ body_stands d e fed given xs n is stage within state gone count m =
     let more = subst (λ (i : ℕ). WhileReading true (d.fed + i) (given ++ d.ready.items) (body d.left d.sum d.words (d.want - i) (d.word.items ++ xs)) (fed ++ xs)) is
     (reading_body true d.fed (given ++ d.ready.items) d.left d.sum d.words d.want d.word.items fed xs le a) in
     kept_or (Stands e (fed ++ xs) given) e.stage
-    (λ is_lost. byte_lost d e fed xs given e.fed going is_lost (gone is_lost) m)
+    (λ is_lost. byte_lost d e fed xs given e.fed (omega arith) going is_lost (gone is_lost) m)
     (λ kept.
     subst (λ (r : Reader). Means true e.fed (prefixed given r) (fed ++ xs)) (sym (state kept))
     (subst (λ (n' : ℕ). Means true n' (reading (given ++ d.ready.items) (body d.left d.sum d.words (d.want - n) (d.word.items ++ xs))) (fed ++ xs)) (sym count) more))
@@ -147,7 +147,7 @@ bulk_stands d e fed given xs word n is stage whole few state gone count m =
     subst (λ (i : ℕ). Means true i (taken at ms (after_bulk d.left sum ws)) (fed ++ xs)) place
     (subst (λ (l : Bytes). Means true (at + 1) (taken at ms (after_bulk d.left sum ws)) l) all ended) in
     kept_or (Means true (e.fed + n) (prefixed given (reader_of e)) (fed ++ xs)) e.stage
-    (λ is_lost. byte_lost d e fed xs given (e.fed + n) going is_lost (gone is_lost) m)
+    (λ is_lost. byte_lost d e fed xs given (e.fed + n) (omega arith) going is_lost (gone is_lost) m)
     (λ kept.
     subst (λ (r : Reader). Means true (e.fed + n) (prefixed given r) (fed ++ xs)) (sym (state kept))
     (subst (λ (r : Reader). Means true (e.fed + n) r (fed ++ xs)) (behind_bulk d.left sum ws given d.ready.items at d.fed) after)) where
@@ -190,19 +190,20 @@ given_all d fed given f m = by_kind (kind_of d.stage) where
   by_kind (breaks fault at is) = fault_all true (given ++ d.ready.items) (fault_of fault) at fed (broken_of d fed given fault at is m)
   by_kind (loses is) = absurd (f (ap failure_at is))
 
+no_memory_lost : (t : Stage) → failure_at t ≡ Some NoMemory → t ≡ Lost
+no_memory_lost t f = by_kind (kind_of t) where
+  by_kind : Kind t → t ≡ Lost
+  by_kind (goes g none) = let both : None ≡ Some NoMemory = sym none ∙ f in cc
+  by_kind (breaks fault at is) = let both : Some (Protocol fault at) ≡ Some NoMemory = sym (ap failure_at is) ∙ f in cc
+  by_kind (loses is) = is
+
 -- what was given, with what of that which is ready, is a prefix of the messages
 pub given_first : (d : Decoder) (fed : Bytes) (given more later : List Message) → d.ready.items ≡ more ++ later → Stands d fed given → GivenFirst true fed (given ++ more)
 given_first d fed given more later ready m =
     let all : given ++ d.ready.items ≡ (given ++ more) ++ later = ap (λ (l : List Message). given ++ l) ready ∙ sym (append_assoc given more later) in
     kept_or (GivenFirst true fed (given ++ more)) d.stage
     (λ is. loss_first true (given ++ more) later fed (subst (λ (l : List Message). AfterLoss true l fed) all (lost_of d fed given is m)))
-    (λ kept. all_first true (given ++ more) later fed (subst (λ (l : List Message). GivenAll true fed l) all (given_all d fed given (λ f. kept (no_memory_lost d.stage f)) m))) where
-      no_memory_lost : (t : Stage) → failure_at t ≡ Some NoMemory → t ≡ Lost
-      no_memory_lost t f = by_kind (kind_of t) where
-        by_kind : Kind t → t ≡ Lost
-        by_kind (goes g none) = let both : None ≡ Some NoMemory = sym none ∙ f in cc
-        by_kind (breaks fault at is) = let both : Some (Protocol fault at) ≡ Some NoMemory = sym (ap failure_at is) ∙ f in cc
-        by_kind (loses is) = is
+    (λ kept. all_first true (given ++ more) later fed (subst (λ (l : List Message). GivenAll true fed l) all (given_all d fed given (λ f. kept (no_memory_lost d.stage f)) m)))
 
 -- nothing is ready
 pub next_all : (d : Decoder) (fed : Bytes) (given : List Message) (r : Option Message) → IfNone r (d.ready.items ≡ []) → (failure_at d.stage ≡ Some NoMemory → ⊥) → Stands d fed given → IfNone r (GivenAll true fed given)
@@ -264,3 +265,10 @@ more_taken d e fed p rest given at n is f s =
 pub all_taken : (d : Decoder) (fed p : Bytes) (given : List Message) (n : ℕ) → (IsGoing d.stage → ⊥) → Stands d (fed ++ take n p) given → Stands d (fed ++ p) given
 all_taken d fed p given n g s =
     subst (λ (l : Bytes). Stands d l given) (append_assoc fed (take n p) (drop n p) ∙ ap (λ (l : Bytes). fed ++ l) (take-append-drop n p)) (stays d (fed ++ take n p) (drop n p) given g s)
+
+-- nothing is ready, and memory was refused
+pub next_before : (d : Decoder) (fed : Bytes) (given : List Message) (r : Option Message) → IfNone r (d.ready.items ≡ []) → failure_at d.stage ≡ Some NoMemory → Stands d fed given → IfNone r (GivenBefore true fed given)
+next_before d fed given None none f m =
+    let all : given ++ d.ready.items ≡ given = ap (λ (l : List Message). given ++ l) none ∙ append-nil given in
+    subst (λ (l : List Message). GivenBefore true fed l) all (loss_before true (given ++ d.ready.items) fed (lost_of d fed given (no_memory_lost d.stage f) m))
+next_before d fed given (Some message) none f m = tt

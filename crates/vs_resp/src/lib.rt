@@ -5,7 +5,7 @@ ghost use Rattle.std.specs.Prelude.{true, ◌≡◌, ◌↔◌, IsTrue, ◌<◌,
 ghost use Rattle.std.specs.Option.{option_to_list};
 ghost use Rattle.vs_defs.specs.Bytes.{Bytes};
 ghost use Rattle.vs_defs.specs.Stream.{Message};
-ghost use Rattle.vs_stream.specs.Given.{GivenAll, GivenFirst};
+ghost use Rattle.vs_stream.specs.Given.{GivenAll, GivenFirst, GivenBefore};
 ghost use Rattle.vs_stream.specs.Place.{IsStream};
 
 use std::alloc::Global;
@@ -140,6 +140,7 @@ impl Decoder {
         ensures stands { (fed : Bytes) (given : List Message) → Stands self.old fed given → Stands self.new fed (given ++ option_to_list result) }
         ensures first { (fed : Bytes) (given : List Message) → Stands self.old fed given → GivenFirst true fed (given ++ option_to_list result) }
         ensures all { (fed : Bytes) (given : List Message) → Stands self.old fed given → (failure self.old ≡ Some FeedError.NoMemory → ⊥) → IfNone result (GivenAll true fed given) }
+        ensures before { (fed : Bytes) (given : List Message) → Stands self.old fed given → failure self.old ≡ Some FeedError.NoMemory → IfNone result (GivenBefore true fed given) }
         ensures some { OnSome result (ready_count self.new + 1 ≡ ready_count self.old) }
         ensures failure { failure self.new ≡ failure self.old }
         ensures taken { bytes_taken self.new ≡ bytes_taken self.old }

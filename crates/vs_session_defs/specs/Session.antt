@@ -3,7 +3,8 @@
 --     Session ..    a whole connection: all messages up to the first answered QUIT, the end or the fault, and the fault's line
 --     Begun ..      the first messages of one, without a fault's line
 --     Finished ..   a whole connection, and how it ends
---     ReadPart .., LacksOfReply .., LacksOfFault ..     a connection whose source failed, or whose sink did
+--     ReadPart .., MemoryPart ..               a connection whose source failed, or for whose reading there was no memory
+--     LacksOfReply .., LacksOfFault ..         a connection whose sink failed
 -- The history is one that fits; that it has no change by others is said by IsByOne, where the store is the connection's own.
 use Rattle.std.specs.Prelude.{◌≡◌, ◌≢◌, ℕ, ◌≤◌, Bool, true, false, List, [], ◌∷◌, ◌++◌, ◌⊎◌, Result, Ok, Err, MatchBool, flat_map, length, All, IsTrue, zip, codes, ◌||◌}
 use Rattle.rand_pcg.specs.Lcg.{Lcg}
@@ -32,6 +33,12 @@ abbrev pub closing_line : Bytes → End → Bytes
 closing_line input stream.Border = []
 closing_line input stream.Within = []
 closing_line input (stream.Broken f rest) = fault_line f (place_in input rest)
+
+-- an input that ends so has no fault
+abbrev pub IsUnbroken : End → Type 0
+IsUnbroken stream.Border = Unit {0}
+IsUnbroken stream.Within = Unit {0}
+IsUnbroken (stream.Broken f rest) = ⊥
 
 abbrev pub replies : List Outcome → Bytes
 replies os = flat_map reply os
@@ -117,10 +124,22 @@ module _ {H : Type 0} (Call : ℕ → H → Request → List ℕ → Outcome →
     pub session : Session k g s input output t g'
     pub ending : how ≡ ending_of input session.outcomes session.ends
 
-  -- after a failed read, or past the bytes that are taken: each whole message was answered
+  -- After a failed read, or past the bytes that are taken: each whole message was answered, QUIT wasn't, and the bytes have no fault. So
+  -- the connection didn't end before.
   pub record ReadPart (k : ℕ) (g : Lcg) (s : H) (input output : Bytes) (t : H) (g' : Lcg) : Type 0 where
     pub begun : Begun k g s input output t g'
     pub all : begun.answered ≡ with_words begun.messages
+    pub no_quit : quits begun.outcomes ≡ false
+    pub unbroken : IsUnbroken begun.ends
+
+  -- Memory was refused before the first read, or while a message was read. The front of the input is the messages before that one.
+  pub record MemoryPart (k : ℕ) (g : Lcg) (s : H) (input output : Bytes) (t : H) (g' : Lcg) : Type 0 where
+    pub front : Bytes
+    pub rest : Bytes
+    pub parts : input ≡ front ++ rest
+    pub before : ReadPart k g s front output t g'
+    pub whole : before.begun.ends ≡ stream.Border
+    pub reading : (input ≡ []) ⊎ (1 ≤ length rest)
 
   -- the sink failed in a reply: one or more of its last bytes are missing, and nothing is answered behind it
   pub record LacksOfReply (k : ℕ) (g : Lcg) (s : H) (input output : Bytes) (t : H) (g' : Lcg) : Type 0 where

@@ -6,7 +6,7 @@ use Rattle.vs_defs.specs.Stream.{Message, Fault, BadCount, ExpectedBulk, BadLeng
 use Rattle.vs_stream.specs.Machine.{State, start, star, minus, minus_one, count, count_end, bulk, len, len_end, body, body_end, line, Next, Goes, Gives, Breaks, count_step, len_step, line_step, begin_bulks, after_bulk, one_word, step, reads}
 use Rattle.vs_stream.specs.Place.{IsStream, BeginsStream, HasFault}
 use Rattle.vs_stream.specs.Reader.{Reader, reading, broken, lost, worded, taken, reader_step, PartOf, WhileReading, AfterFault, AfterLoss, Means, prefixed}
-use Rattle.vs_stream.specs.Given.{GivenAll, GivenFirst}
+use Rattle.vs_stream.specs.Given.{GivenAll, GivenFirst, GivenBefore}
 use Rattle.vs_stream.proofs.Resume.{message_reads}
 use Rattle.vs_stream.proofs.Laws.{splits_behind}
 use Rattle.vs_defs.proofs.StreamLaws.{splits_always, splits_once}
@@ -207,16 +207,18 @@ loss_more lines ms fed more g = record {
   rest = g.rest ++ more;
   all = g.all;
   fed_is = ap (λ (l : Bytes). l ++ more) g.fed_is ∙ append_assoc g.front g.rest more;
+  begun = omega (arith, g.begun, length-append g.rest more);
   whole = g.whole;
   given = g.given;
 }
 
-pub loss_of : (lines : Bool) (n : ℕ) (ms : List Message) (s : State) (fed more : Bytes) → WhileReading lines n ms s fed → AfterLoss lines ms (fed ++ more)
-loss_of lines n ms s fed more a = record {
+pub loss_of : (lines : Bool) (n : ℕ) (ms : List Message) (s : State) (fed more : Bytes) → 1 ≤ length more → WhileReading lines n ms s fed → AfterLoss lines ms (fed ++ more)
+loss_of lines n ms s fed more some a = record {
   front = a.front;
   rest = a.part ++ more;
   all = a.all;
   fed_is = ap (λ (l : Bytes). l ++ more) a.fed_is ∙ append_assoc a.front a.part more;
+  begun = omega (arith, some, length-append a.part more);
   whole = a.whole;
   given = a.given;
 }
@@ -347,6 +349,9 @@ loss_first lines given later fed g =
       subst (λ (l : Bytes). Splits lines l (g.all ++ s.0) s.1) (sym g.fed_is) (splits_behind lines g.front g.rest g.all s.0 s.1 g.whole s.2),
       (later ++ with_words s.0, with_words_append g.all s.0 ∙ ap (λ (l : List Message). l ++ with_words s.0) g.given ∙ append_assoc given later (with_words s.0)),
     )
+
+pub loss_before : (lines : Bool) (ms : List Message) (fed : Bytes) → AfterLoss lines ms fed → GivenBefore lines fed ms
+loss_before lines ms fed g = (g.front, g.rest, g.all, g.fed_is, g.begun, g.whole, g.given)
 
 -- the border
 pub reading_start : (lines : Bool) (n : ℕ) (ms : List Message) (fed : Bytes) → WhileReading lines n ms start fed → IsStream lines fed

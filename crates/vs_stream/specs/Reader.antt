@@ -1,5 +1,5 @@
 -- What a reader of the stream stands for, after these bytes were fed to it.
-use Rattle.std.specs.Prelude.{◌≡◌, ◌∷◌, ◌++◌, ℕ, Bool, List, [], length}
+use Rattle.std.specs.Prelude.{◌≡◌, ◌≤◌, ◌∷◌, ◌++◌, ℕ, Bool, List, [], length}
 use Rattle.vs_defs.specs.Bytes.{Bytes}
 use Rattle.vs_defs.specs.Stream.{Message, Fault, Border, Broken, Splits, with_words, place_in}
 use Rattle.vs_stream.specs.Machine.{State, start, star, minus, minus_one, count, count_end, bulk, len, len_end, body, body_end, line, Next, Goes, Gives, Breaks, step, reads}
@@ -64,6 +64,7 @@ pub record AfterLoss (lines : Bool) (ms : List Message) (fed : Bytes) : Type 0 w
   pub rest : Bytes
   pub all : List Message
   pub fed_is : fed ≡ front ++ rest
+  pub begun : 1 ≤ length rest
   pub whole : Splits lines front all Border
   pub given : with_words all ≡ ms
 
