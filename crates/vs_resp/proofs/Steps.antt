@@ -142,13 +142,12 @@ bulk_stands d e fed given xs word n is stage whole few state gone count m =
     (leads_reading d.fed ms (bulk d.left d.sum d.words) (body_end d.left sum d.words word) fed b.0 b.2 a) in
     let all : (fed ++ b.0) ++ 10 ∷ [] ≡ fed ++ xs = append_assoc fed b.0 (10 ∷ []) ∙ ap (λ (l : Bytes). fed ++ l) (sym b.1) in
     let bytes : length b.0 + 1 ≡ n = sym (length-append b.0 (10 ∷ [])) ∙ ap length (sym b.1) ∙ is in
-    let some : 1 ≤ length xs = omega arith in
     let place : at + 1 ≡ e.fed + n = omega arith in
     let after : Means true (e.fed + n) (taken at ms (after_bulk d.left sum ws)) (fed ++ xs) =
     subst (λ (i : ℕ). Means true i (taken at ms (after_bulk d.left sum ws)) (fed ++ xs)) place
     (subst (λ (l : Bytes). Means true (at + 1) (taken at ms (after_bulk d.left sum ws)) l) all ended) in
     kept_or (Means true (e.fed + n) (prefixed given (reader_of e)) (fed ++ xs)) e.stage
-    (λ is_lost. byte_lost d e fed xs given (e.fed + n) some going is_lost (gone is_lost) m)
+    (λ is_lost. byte_lost d e fed xs given (e.fed + n) (omega arith) going is_lost (gone is_lost) m)
     (λ kept.
     subst (λ (r : Reader). Means true (e.fed + n) (prefixed given r) (fed ++ xs)) (sym (state kept))
     (subst (λ (r : Reader). Means true (e.fed + n) r (fed ++ xs)) (behind_bulk d.left sum ws given d.ready.items at d.fed) after)) where
