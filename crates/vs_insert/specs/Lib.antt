@@ -4,3 +4,7 @@ pub mod Added
 pub mod Choosing
 pub mod Height
 pub mod Rejoined
+pub mod Walking
+pub mod Turns
+pub mod Walked
+pub mod Removed
