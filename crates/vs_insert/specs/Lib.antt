@@ -8,3 +8,4 @@ pub mod Walking
 pub mod Turns
 pub mod Walked
 pub mod Removed
+pub mod Chosen
