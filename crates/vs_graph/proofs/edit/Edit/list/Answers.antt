@@ -1,5 +1,5 @@
-use Rattle.std.proofs.Common.{◌≡◌, ◌∷◌, [], ◌++◌, length, length-append, subst, sym, ap, ◌∙◌, arith}
-use Rattle.vs_graph.specs.Said.{listed, said}
+use Rattle.std.proofs.Common.{◌≡◌, ◌∷◌, [], ◌++◌, length, length-append, ap, ◌∙◌, arith}
+use Rattle.vs_graph.specs.Said.{listed}
 use Rattle.vs_graph.specs.Edits.{changed}
 use Rattle.vs_graph.proofs.Listed.{SaysNow, listed_push, said_listed, says_at, below_now}
 use Rattle.vs_graph.proofs.edit.Edit.list.Goals as goal

@@ -1,4 +1,4 @@
-use Rattle.std.proofs.Common.{length, set, length-set, subst, sym, ap, ◌∙◌, arith}
+use Rattle.std.proofs.Common.{length-set, subst, sym, ◌∙◌}
 use Rattle.std.specs.Prelude.{slice_set}
 use Rattle.vs_graph.specs.Said.{IsLastAt, IsNowhere}
 use Rattle.vs_graph.specs.Edits.{changed}
