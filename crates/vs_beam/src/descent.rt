@@ -36,7 +36,7 @@ fn level_and_distance<N: Nodes, L: Ledger>(
     ensures told { reads.new ≡ reads.old + 1 }
 {
     match nodes.get(id, reads) {
-        Some(node) => (node.level, distance(query, node.body.get().bits.as_slice())),
+        Some(node) => (node.level, distance(query, node.body.bits())),
         None => unreachable!(),
     }
 }

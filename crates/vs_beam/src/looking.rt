@@ -23,7 +23,7 @@ pub fn look<N: Nodes, F: Testing, L: Ledger>(
 {
     match nodes.get(id, reads) {
         Some(node) => {
-            let dist = distance(query, node.body.get().bits.as_slice());
+            let dist = distance(query, node.body.bits());
             let passes = match &node.attr {
                 Some(attr) => wanted.passes(Some(attr.get().text.as_slice())),
                 None => wanted.passes(None),

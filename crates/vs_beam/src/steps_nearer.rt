@@ -31,7 +31,7 @@ fn far<N: Nodes, L: Ledger>(nodes: &N, id: u32, query: &[u64], reads: &mut Steps
     ensures told { reads.new ≡ reads.old + 1 }
 {
     match nodes.get(id, reads) {
-        Some(node) => distance(query, node.body.get().bits.as_slice()),
+        Some(node) => distance(query, node.body.bits()),
         None => unreachable!(),
     }
 }

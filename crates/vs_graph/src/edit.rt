@@ -1,33 +1,60 @@
-ghost use Rattle.std.specs.Prelude.{ℕ, ◌<◌, IsSome};
-ghost use Rattle.std.specs.Ordering.{nat_cmp};
-ghost use Rattle.std.specs.BTreeMap.{get};
+ghost use Rattle.std.specs.Prelude.{◌≡◌, ◌<◌, ℕ, length, IsSome, IfSome, IfNone};
+ghost use Rattle.vs_graph.specs.Said.{said, IsLastAt, IsNowhere};
 
+use crate::link_change::LinkChange;
 use crate::{Node, Nodes, Steps};
 use std::alloc::Global;
 use std::collections::BTreeMap;
 use std::sync::ledger::Ledger;
 use vs_outside::NoMemory;
 
-/// Changed nodes over a base: its meaning is the base overwritten.
+/// How many changed ids an edit lists before it keeps further ones in a map: more than an insertion changes at 16 links a member.
+const LISTED: usize = 48;
+
+/// Changed nodes over a base: its meaning is the base overwritten. Few ids are listed and searched from the last, since the
+/// one that was changed last is asked for most often; further ones are in a map.
 #[derive(Drop)]
 pub struct Edit {
-    changes: BTreeMap<u32, Option<Node>>,
+    ids: Vec<u32>,
+    /// The node of each listed id.
+    nodes: Vec<Option<Node>>,
+    more: BTreeMap<u32, Option<Node>>,
     end: u64,
-    ghost ends: { (id : ℕ) → IsSome (get nat_cmp changes id) → id < end },
+    ghost beside: { length ids.items ≡ length nodes.items },
+    ghost ends: { (id : ℕ) → IsSome (said ids.items nodes.items more id) → id < end },
+}
+
+/// The last place at which an id is listed.
+fn place_of(ids: &[u32], id: u32) -> Option<usize>
+    ensures some { IfSome result (IsLastAt ids.now id) }
+    ensures none { IfNone result (IsNowhere ids.now id) }
+{
+    let mut place = ids.len();
+    while place > 0 {
+        place -= 1;
+        if ids[place] == id {
+            return Some(place);
+        }
+    }
+    None
 }
 
 impl Edit {
-    ghost use Rattle.std.specs.Prelude.{◌≡◌, ◌≢◌, ◌+◌, ◌<◌, ℕ, Some, None, OnOk, OnErr, IsSome};
-    ghost use Rattle.std.specs.Option.{option_copied};
+    ghost use Rattle.std.specs.Prelude.{◌≡◌, ◌≢◌, ◌+◌, ◌<◌, ℕ, length, Some, None, OnOk, OnErr, IsSome, IsSomeAnd, option_map};
+    ghost use Rattle.std.specs.Option.{option_copied, option_flatten};
+    ghost use Rattle.vs_graph.specs.Said.{listed};
     ghost use Rattle.vs_graph.specs.Edits.{changed, overwritten, SaysAt};
     ghost use Rattle.vs_graph.specs.NodeMap.{list_at};
+    ghost use Rattle.vs_graph.specs.Relinks.{relinked};
 
     /// No change.
     pub fn new(alloc: Global) -> Edit
         ensures { (id : ℕ) → changed result id ≡ None }
     {
         Edit {
-            changes: BTreeMap::new(alloc),
+            ids: Vec::new(alloc),
+            nodes: Vec::new(alloc),
+            more: BTreeMap::new(alloc),
             end: 0,
         }
     }
@@ -39,13 +66,64 @@ impl Edit {
         self.end
     }
 
+    /// What the edit itself says of an id.
+    fn own(&self, id: u32) -> Option<&Option<Node>>
+        ensures { option_copied result ≡ changed self.now id }
+    {
+        match place_of(&self.ids, id) {
+            Some(place) => Some(&self.nodes[place]),
+            None => self.more.get(&id),
+        }
+    }
+
+    /// Says the node of an id last in the lists.
+    fn list(&mut self, id: u32, node: Option<Node>) -> Result<(), NoMemory>
+        ensures ok { OnOk result (SaysAt self.old self.new id node) }
+        ensures err { OnErr result ((q : ℕ) → changed self.new q ≡ changed self.old q) }
+    {
+        self.ids.reserve(1)?;
+        self.nodes.reserve(1)?;
+        self.ids.push_reserved(id);
+        self.nodes.push_reserved(node);
+        self.end = self.end.max(u64::from(id) + 1);
+        Ok(())
+    }
+
+    /// Says the node of an id that is not listed in the map.
+    fn map(&mut self, id: u32, node: Option<Node>) -> Result<(), NoMemory>
+        requires { listed self.old.ids.items self.old.nodes.items id ≡ None }
+        ensures ok { OnOk result (SaysAt self.old self.new id node) }
+        ensures err { OnErr result ((q : ℕ) → changed self.new q ≡ changed self.old q) }
+    {
+        self.more.insert(id, node)?;
+        self.end = self.end.max(u64::from(id) + 1);
+        Ok(())
+    }
+
+    /// Says the node of an id that is not listed.
+    fn say_unlisted(&mut self, id: u32, node: Option<Node>) -> Result<(), NoMemory>
+        requires { listed self.old.ids.items self.old.nodes.items id ≡ None }
+        ensures ok { OnOk result (SaysAt self.old self.new id node) }
+        ensures err { OnErr result ((q : ℕ) → changed self.new q ≡ changed self.old q) }
+    {
+        if self.ids.len() < LISTED {
+            self.list(id, node)
+        } else {
+            self.map(id, node)
+        }
+    }
+
     fn say(&mut self, id: u32, node: Option<Node>) -> Result<(), NoMemory>
         ensures ok { OnOk result (SaysAt self.old self.new id node) }
         ensures err { OnErr result ((q : ℕ) → changed self.new q ≡ changed self.old q) }
     {
-        self.changes.insert(id, node)?;
-        self.end = self.end.max(u64::from(id) + 1);
-        Ok(())
+        match place_of(&self.ids, id) {
+            Some(place) => {
+                self.nodes[place] = node;
+                Ok(())
+            }
+            None => self.say_unlisted(id, node),
+        }
     }
 
     pub fn put(&mut self, id: u32, node: Node) -> Result<(), NoMemory>
@@ -66,7 +144,7 @@ impl Edit {
     pub(crate) fn over<'a>(&'a self, base: &'a [Option<Node>], id: u32) -> Option<&'a Node>
         ensures { option_copied result ≡ overwritten self.entry.now (list_at base.entry.now) id }
     {
-        match self.changes.get(&id) {
+        match self.own(id) {
             Some(node) => node.as_ref(),
             None => match base.get(id as usize) {
                 Some(node) => node.as_ref(),
@@ -85,12 +163,51 @@ impl Edit {
         ensures value { option_copied result ≡ overwritten self.entry.now (N.at base.entry.now) id }
         ensures told { reads.new ≡ reads.old + 1 }
     {
-        match self.changes.get(&id) {
+        match self.own(id) {
             Some(node) => {
                 reads.tick();
                 node.as_ref()
             }
             None => base.get(id, reads),
+        }
+    }
+
+    /// Takes a copy of a live node of the base overwritten into the edit, unless it is there, so that it can be changed where it is.
+    pub(crate) fn open<N: Nodes, L: Ledger>(
+        &mut self,
+        alloc: Global,
+        base: &N,
+        id: u32,
+        reads: &mut Steps<L>,
+    ) -> Result<(), NoMemory>
+        requires { IsSome (overwritten self.old (N.at base.now) id) }
+        ensures ok { OnOk result (SaysAt self.old self.new id (overwritten self.old (N.at base.now) id)) }
+        ensures told { reads.new ≡ reads.old + 1 }
+    {
+        if self.own(id).is_some() {
+            reads.tick();
+            return Ok(());
+        }
+        match base.get(id, reads) {
+            Some(node) => {
+                let copy = node.try_clone(alloc)?;
+                self.say_unlisted(id, Some(copy))
+            }
+            None => unreachable!(),
+        }
+    }
+
+    /// Changes the links of a node that the edit says itself, where it is.
+    pub(crate) fn relink(&mut self, id: u32, layer: u8, change: LinkChange) -> Result<(), NoMemory>
+        requires { IsSomeAnd (option_flatten (changed self.old id)) (λ node. layer < length node.links) }
+        ensures { OnOk result (SaysAt self.old self.new id (option_map (relinked layer change) (option_flatten (changed self.old id)))) }
+    {
+        match place_of(&self.ids, id) {
+            Some(place) => change.apply(&mut self.nodes[place], layer),
+            None => match self.more.get_mut(&id) {
+                Some(node) => change.apply(node, layer),
+                None => unreachable!(),
+            },
         }
     }
 }

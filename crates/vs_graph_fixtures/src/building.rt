@@ -8,18 +8,16 @@ ghost use Rattle.vs_graph_fixtures.specs.Members.{IsPlain};
 use crate::picking::{is_new_name, pick};
 use std::alloc::Global;
 use std::sync::ledger::Ledger;
-use vs_graph::{Attr, Body, Edit, Graph, Node, Nodes, RefCounted, Steps, no_links, put_newcomer};
+use vs_graph::{
+    Attr, Edit, Graph, InlineBody, LayerLinks, Node, Nodes, RefCounted, Steps, put_newcomer,
+};
 use vs_link::link_layer;
-use vs_outside::{List, NoMemory, Text};
+use vs_outside::{NoMemory, Text};
 
 /// A node of level 0 without links. An empty attribute is none.
 pub fn member(alloc: Global, name: &[u8], words: &[u64], attr: &[u8]) -> Result<Node, NoMemory>
     ensures { IfOk result (IsPlain words.now) }
 {
-    let body = Body {
-        name: Text::from_slice(alloc, name)?,
-        bits: List::from_slice(alloc, words)?,
-    };
     let attr = if attr.is_empty() {
         None
     } else {
@@ -27,10 +25,10 @@ pub fn member(alloc: Global, name: &[u8], words: &[u64], attr: &[u8]) -> Result<
         Some(RefCounted::new(alloc, Attr { text })?)
     };
     Ok(Node {
-        body: RefCounted::new(alloc, body)?,
+        body: InlineBody::new(alloc, name, words)?,
         attr,
         level: 0,
-        links: no_links(alloc, 0)?,
+        links: LayerLinks::new(alloc, 0)?,
     })
 }
 
@@ -81,7 +79,7 @@ pub fn add_member<N: Nodes, L: Ledger>(
     ensures dim { graph.new.dim ≡ graph.old.dim }
 {
     let id = graph.nodes().limit();
-    if id >= 1048576 || !is_new_name(graph.nodes(), node.body.get().name.as_slice(), reads) {
+    if id >= 1048576 || !is_new_name(graph.nodes(), node.body.name(), reads) {
         return Ok(false);
     }
     let edit = addition(alloc, graph, id, node, candidates, reads)?;

@@ -19,7 +19,7 @@ fn has_other_name<N: Nodes, L: Ledger>(
     ensures { result ≡ true → IfSome (N.at nodes.now id) (λ other. other.body.name ≢ name.now) }
 {
     match nodes.get(id, reads) {
-        Some(node) => node.body.get().name.as_slice() != name,
+        Some(node) => node.body.name() != name,
         None => true,
     }
 }

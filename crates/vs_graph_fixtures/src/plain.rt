@@ -11,7 +11,7 @@ pub fn plain_distance<N: Nodes, L: Ledger>(
     reads: &mut Steps<L>,
 ) -> u32 {
     match nodes.get(id, reads) {
-        Some(node) => match node.body.get().bits.get(0) {
+        Some(node) => match node.body.bits().first() {
             Some(bits) => (*bits ^ word).count_ones(),
             None => 65,
         },

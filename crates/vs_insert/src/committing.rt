@@ -10,7 +10,7 @@ use crate::Draft;
 use crate::joining::{join_layers, shared_layers};
 use std::alloc::Global;
 use std::sync::ledger::Ledger;
-use vs_graph::{Attr, Edit, Graph, Node, Nodes, RefCounted, Steps, no_links, put_newcomer};
+use vs_graph::{Attr, Edit, Graph, LayerLinks, Node, Nodes, RefCounted, Steps, put_newcomer};
 use vs_outside::NoMemory;
 
 /// The change that adds a draft's member, and the entry after it.
@@ -46,7 +46,7 @@ fn addition<N: Nodes, L: Ledger>(
         body,
         attr,
         level,
-        links: no_links(alloc, level)?,
+        links: LayerLinks::new(alloc, level)?,
     };
     let mut edit = Edit::new(alloc);
     put_newcomer(&mut edit, nodes, id, node)?;

@@ -1,11 +1,11 @@
-use vs_graph::{Body, RefCounted};
+use vs_graph::InlineBody;
 use vs_outside::List;
 
 /// A member that a new one is to be linked to, with the body that it had.
 #[derive(Drop)]
 pub struct Chosen {
     pub id: u32,
-    pub body: RefCounted<Body>,
+    pub body: InlineBody,
 }
 
 /// A new member, and whom it is to be linked to: one list for each of its layers, from 0 on.
@@ -14,5 +14,5 @@ pub struct Draft {
     pub cut: u64,
     pub level: u8,
     pub chosen: List<List<Chosen>>,
-    pub body: RefCounted<Body>,
+    pub body: InlineBody,
 }

@@ -15,11 +15,8 @@ fn is_higher(one: &Node, other: &Node) -> bool
     ensures { result ≡ is_lt (height one.now other.now) }
 {
     let names = one
-        .body
-        .get()
-        .name
-        .as_slice()
-        .cmp(other.body.get().name.as_slice());
+        .body.name()
+        .cmp(other.body.name());
     other.level.cmp(&one.level).then(names).is_lt()
 }
 

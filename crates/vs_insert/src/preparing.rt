@@ -13,7 +13,7 @@ use crate::{Chosen, Draft};
 use std::alloc::Global;
 use std::sync::ledger::Ledger;
 use vs_beam::{Descent, descend};
-use vs_graph::{Body, Graph, Nodes, RefCounted, Steps};
+use vs_graph::{Graph, InlineBody, Nodes, Steps};
 use vs_outside::{List, NoMemory};
 use vs_rank::{Testing, Wanted};
 use vs_slot::Slot;
@@ -68,7 +68,7 @@ pub fn prepare<N: Nodes, L: Ledger>(
     alloc: Global,
     graph: &Graph<N>,
     cut: u64,
-    body: RefCounted<Body>,
+    body: InlineBody,
     level: u8,
     ef: u32,
     slot: &mut Slot,
@@ -85,7 +85,7 @@ pub fn prepare<N: Nodes, L: Ledger>(
     ensures chosen { IfOk result (λ draft. (cut : ℕ) (ids : Items ℕ) → AreIds (N.at graph.now.nodes) ids
         → IsChosen (set_of (N.at graph.now.nodes) graph.now.entry graph.now.m graph.now.dim cut ids) (bits_of_words graph.now.dim body.bits) level ef (names_down draft.chosen)) }
 {
-    let query = body.get().bits.as_slice();
+    let query = body.bits();
     let everyone = |_attr: Option<&[u8]>| true;
     let mut lists = chosen_lists(alloc, graph, query, level, ef, everyone, slot, reads)?;
     lists.reverse();

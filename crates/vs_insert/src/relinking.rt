@@ -84,10 +84,7 @@ fn choice_for<N: Nodes, F: Testing, L: Ledger>(
     let nodes = graph.nodes();
     let start = start_of(edit, nodes, entry, orphan.id, reads);
     let query = live_node(edit, nodes, orphan.id, reads)
-        .body
-        .get()
-        .bits
-        .as_slice();
+        .body.bits();
     let search = beam(
         alloc,
         graph,

@@ -48,7 +48,7 @@ fn level_at<N: Nodes, L: Ledger>(nodes: &N, id: u32, reads: &mut Steps<L>) -> Op
 }
 
 fn check_node(node: &Node, dim: u32) -> Result<(), Fault> {
-    if node.body.get().bits.len() != dim.div_ceil(64) as usize {
+    if node.body.bits().len() != dim.div_ceil(64) as usize {
         return Err(Fault::Words);
     }
     if node.level > 15 {
@@ -68,7 +68,7 @@ fn check_name<N: Nodes, L: Ledger>(
 ) -> Result<(), Fault> {
     for other in 0..nodes.limit() {
         match nodes.get(other, reads) {
-            Some(node) if other != id && node.body.get().name.as_slice() == name => {
+            Some(node) if other != id && node.body.name() == name => {
                 return Err(Fault::Name);
             }
             _ => {}
@@ -153,7 +153,7 @@ fn check_member<N: Nodes, L: Ledger>(
     reads: &mut Steps<L>,
 ) -> Result<(), Fault> {
     check_node(node, bounds.dim)?;
-    check_name(nodes, id, node.body.get().name.as_slice(), reads)?;
+    check_name(nodes, id, node.body.name(), reads)?;
     for layer in 0u8..16 {
         if layer <= node.level {
             check_layer(nodes, bounds, id, links(node, layer), layer, reads)?;
@@ -235,8 +235,8 @@ fn is_same_member(one: Option<&Node>, other: Option<&Node>) -> bool {
     match (one, other) {
         (Some(one), Some(other)) => {
             one.level == other.level
-                && one.body.get().name.as_slice() == other.body.get().name.as_slice()
-                && one.body.get().bits.as_slice() == other.body.get().bits.as_slice()
+                && one.body.name() == other.body.name()
+                && one.body.bits() == other.body.bits()
         }
         (None, None) => true,
         _ => false,

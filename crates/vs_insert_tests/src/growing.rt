@@ -5,21 +5,17 @@ ghost use Rattle.vs_insert.specs.Added.{AreDrafted};
 
 use std::alloc::Global;
 use std::sync::ledger::Ledger;
-use vs_graph::{Body, FreshNodes, Graph, Nodes, RefCounted, Steps};
+use vs_graph::{FreshNodes, Graph, InlineBody, Nodes, Steps};
 use vs_graph_fixtures::{is_new_name, word_at};
 use vs_insert::{Draft, commit, prepare};
-use vs_outside::{List, NoMemory, Text};
+use vs_outside::NoMemory;
 use vs_slot::Slot;
 
 /// A name, and a vector of 64 bits.
-pub fn body_of(alloc: Global, name: &[u8], word: u64) -> Result<RefCounted<Body>, NoMemory>
+pub fn body_of(alloc: Global, name: &[u8], word: u64) -> Result<InlineBody, NoMemory>
     ensures { IfOk result (λ body. body.bits ≡ word ∷ []) }
 {
-    let body = Body {
-        name: Text::from_slice(alloc, name)?,
-        bits: List::from_slice(alloc, &[word])?,
-    };
-    RefCounted::new(alloc, body)
+    InlineBody::new(alloc, name, &[word])
 }
 
 /// A draft by beams of width 8.
@@ -57,7 +53,7 @@ pub fn settle<N: Nodes, L: Ledger>(
     ensures kept { OnOk result ((level : ℕ) (chosen : Items (Items Chosen)) → AreDrafted (N.at graph.old.nodes) graph.old.m level chosen → AreDrafted (N.at graph.new.nodes) graph.new.m level chosen) }
 {
     let id = graph.nodes().limit();
-    if id >= 1048576 || !is_new_name(graph.nodes(), draft.body.get().name.as_slice(), reads) {
+    if id >= 1048576 || !is_new_name(graph.nodes(), draft.body.name(), reads) {
         return Ok(false);
     }
     commit(alloc, graph, draft, id, None, reads)?;

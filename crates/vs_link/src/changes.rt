@@ -6,7 +6,7 @@ ghost use Rattle.vs_graph.specs.Relinks.{Relinks};
 
 use std::alloc::Global;
 use std::sync::ledger::Ledger;
-use vs_graph::{Edit, Node, Nodes, Steps, add_link, drop_link, fewer, links, more, put_links};
+use vs_graph::{Edit, Node, Nodes, Steps, add_link, drop_link};
 use vs_outside::NoMemory;
 
 /// Links `x` and `y`, whose node is at hand.
@@ -16,7 +16,7 @@ pub(crate) fn join<N: Nodes, L: Ledger>(
     base: &N,
     x: u32,
     y: u32,
-    node: Node,
+    mut node: Node,
     layer: u8,
     reads: &mut Steps<L>,
 ) -> Result<(), NoMemory>
@@ -26,8 +26,8 @@ pub(crate) fn join<N: Nodes, L: Ledger>(
     ensures links { OnOk result (Relinks (overwritten edit.old (N.at base.now)) (overwritten edit.new (N.at base.now)) layer (joined (links_at (overwritten edit.old (N.at base.now)) layer) x y)) }
     ensures told { reads.new ≤ reads.old + 1 }
 {
-    let list = more(alloc, links(&node, layer), x)?;
-    put_links(edit, y, node, layer, list)?;
+    node.links.push(layer, x)?;
+    edit.put(y, node)?;
     add_link(alloc, edit, base, x, y, layer, reads)
 }
 
@@ -38,7 +38,7 @@ pub(crate) fn displace<N: Nodes, L: Ledger>(
     base: &N,
     x: u32,
     y: u32,
-    node: Node,
+    mut node: Node,
     w: u32,
     layer: u8,
     reads: &mut Steps<L>,
@@ -50,9 +50,9 @@ pub(crate) fn displace<N: Nodes, L: Ledger>(
     ensures links { OnOk result (Relinks (overwritten edit.old (N.at base.now)) (overwritten edit.new (N.at base.now)) layer (displaced (links_at (overwritten edit.old (N.at base.now)) layer) x y w)) }
     ensures told { reads.new ≤ reads.old + 2 }
 {
-    let left = fewer(alloc, links(&node, layer), w)?;
-    let list = more(alloc, left.as_slice(), x)?;
-    put_links(edit, y, node, layer, list)?;
+    node.links.remove(layer, w);
+    node.links.push(layer, x)?;
+    edit.put(y, node)?;
     drop_link(alloc, edit, base, w, y, layer, reads)?;
     add_link(alloc, edit, base, x, y, layer, reads)
 }

@@ -26,7 +26,7 @@ fn words<'a, N: Nodes, L: Ledger>(
     ensures value { result.now ≡ words_at (body_at (overwritten edit.entry.now (N.at base.entry.now))) id }
     ensures told { reads.new ≡ reads.old + 1 }
 {
-    live_node(edit, base, id, reads).body.get().bits.as_slice()
+    live_node(edit, base, id, reads).body.bits()
 }
 
 /// Whether a chosen member is nearer to the candidate than the new member is.

@@ -34,10 +34,10 @@ fn yielding<N: Nodes, L: Ledger>(
         (farthest (body_at (overwritten edit.now (N.at base.now))) y (links_at (overwritten edit.now (N.at base.now)) layer y)) }
     ensures told { reads.new ≡ reads.old + length (links_of own.now layer) + 1 }
 {
-    let words = own.body.get().bits.as_slice();
+    let words = own.body.bits();
     let near = distance(
         words,
-        live_node(edit, base, x, reads).body.get().bits.as_slice(),
+        live_node(edit, base, x, reads).body.bits(),
     );
     match farthest_of(edit, base, words, links(own, layer), reads) {
         Some(far) if near < far.dist && degree(far.node, layer) > 1 => Some(far.id),
@@ -104,8 +104,8 @@ pub(crate) fn force<N: Nodes, L: Ledger>(
     if degree(&own, layer) < most {
         return join(alloc, edit, base, x, y, own, layer, reads);
     }
-    let from = own.body.get().bits.as_slice();
-    let to = live_node(edit, base, x, reads).body.get().bits.as_slice();
+    let from = own.body.bits();
+    let to = live_node(edit, base, x, reads).body.bits();
     let found = survey(edit, base, from, to, links(&own, layer), layer, most, reads);
     match (found.roomy, found.farthest) {
         (Some(z), _) => {

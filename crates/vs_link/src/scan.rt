@@ -28,11 +28,8 @@ fn order(a: Near, b: Near) -> Ordering
 {
     let names = a
         .node
-        .body
-        .get()
-        .name
-        .as_slice()
-        .cmp(b.node.body.get().name.as_slice());
+        .body.name()
+        .cmp(b.node.body.name());
     a.dist.cmp(&b.dist).then(names)
 }
 
@@ -74,7 +71,7 @@ fn neighbour<'a, N: Nodes, L: Ledger>(
     let there = live_node(edit, base, id, reads);
     Near {
         id,
-        dist: distance(words, there.body.get().bits.as_slice()),
+        dist: distance(words, there.body.bits()),
         node: there,
     }
 }
@@ -127,7 +124,7 @@ fn seen_from<'a>(near: Near<'a>, words: &[u64]) -> Near<'a>
 {
     Near {
         id: near.id,
-        dist: distance(words, near.node.body.get().bits.as_slice()),
+        dist: distance(words, near.node.body.bits()),
         node: near.node,
     }
 }

@@ -8,9 +8,9 @@ use std::alloc::Global;
 use std::marker::{Brand, Model};
 use std::sync::ledger::{Blank, Ledger};
 use vs_graph::{
-    Body, Edit, ListNodes, Node, Nodes, RefCounted, Steps, degree, links, no_links, put_newcomer,
+    Edit, InlineBody, LayerLinks, ListNodes, Node, Nodes, Steps, degree, links, put_newcomer,
 };
-use vs_outside::{List, NoMemory, Text};
+use vs_outside::{List, NoMemory};
 use vs_rank::Key;
 
 /// Members over an empty map: each has one word, the byte of its id as its name, and good links for M 4.
@@ -89,14 +89,11 @@ impl Draft {
         if self.next >= 100 {
             return Ok(self);
         }
-        let mut name = Text::new(alloc);
-        name.push(self.next as u8)?;
-        let bits = List::from_slice(alloc, &[word])?;
         let node = Node {
-            body: RefCounted::new(alloc, Body { name, bits })?,
+            body: InlineBody::new(alloc, &[self.next as u8], &[word])?,
             attr: None,
             level: 0,
-            links: no_links(alloc, 0)?,
+            links: LayerLinks::new(alloc, 0)?,
         };
         put_newcomer(&mut self.edit, &self.base, self.next, node)?;
         self.next += 1;

@@ -7,10 +7,9 @@ use rand_core::utils::NextWord;
 use rand_pcg::Lcg64Xsh32;
 use std::alloc::Global;
 use std::sync::ledger::Ledger;
-use vs_graph::{Body, FreshNodes, Graph, Nodes, RefCounted, Steps};
+use vs_graph::{FreshNodes, Graph, InlineBody, Nodes, Steps};
 use vs_graph_fixtures::is_new_name;
 use vs_insert::{commit, prepare};
-use vs_outside::{List, Text};
 use vs_slot::Slot;
 
 /// The level of a new member by a random word.
@@ -41,11 +40,7 @@ fn add<N: Nodes, L: Ledger>(
     if !is_new_name(graph.nodes(), row.name.as_slice(), reads) {
         return Err(RecallError::NameTaken);
     }
-    let body = Body {
-        name: Text::from_slice(alloc, row.name.as_slice())?,
-        bits: List::from_slice(alloc, row.bits.words())?,
-    };
-    let body = RefCounted::new(alloc, body)?;
+    let body = InlineBody::new(alloc, row.name.as_slice(), row.bits.words())?;
     let draft = prepare(alloc, graph, 0, body, level, 64, slot, reads)?;
     commit(alloc, graph, draft, id, None, reads)?;
     Ok(())

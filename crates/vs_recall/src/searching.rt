@@ -57,7 +57,7 @@ fn first_names<'a, N: Nodes, L: Ledger>(
     let mut nears = Vec::with_capacity(alloc, keys.len())?;
     for key in keys {
         if let Some(node) = nodes.get(key.id, reads) {
-            let name = node.body.get().name.as_slice();
+            let name = node.body.name();
             nears.push(Near {
                 dist: key.dist,
                 name,

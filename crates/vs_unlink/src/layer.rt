@@ -13,7 +13,7 @@ use crate::Pair;
 use crate::pairs::pairing;
 use std::alloc::Global;
 use std::sync::ledger::Ledger;
-use vs_graph::{Edit, Nodes, Steps, add_link, drop_link, links, live_copy, live_node, put_links};
+use vs_graph::{Edit, Nodes, Steps, add_link, drop_link, links, live_copy, live_node};
 use vs_outside::{List, NoMemory};
 
 /// Leaves `x` without links at a layer.
@@ -28,8 +28,9 @@ fn clear_links<N: Nodes, L: Ledger>(
     requires { layer < layers_at (overwritten edit.old (N.at base.now)) x }
     ensures { OnOk result (Relinks (overwritten edit.old (N.at base.now)) (overwritten edit.new (N.at base.now)) layer (put (links_at (overwritten edit.old (N.at base.now)) layer) x [])) }
 {
-    let own = live_copy(alloc, edit, base, x, reads)?;
-    put_links(edit, x, own, layer, List::new(alloc))
+    let mut own = live_copy(alloc, edit, base, x, reads)?;
+    own.links.clear(layer);
+    edit.put(x, own)
 }
 
 /// Takes away the links of `x` at a layer, and answers its former neighbours.

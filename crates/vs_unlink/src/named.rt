@@ -31,7 +31,7 @@ fn with_names<'a, N: Nodes, L: Ledger>(
     for id in ids {
         let own = live_node(edit, base, *id, reads);
         all.push(Named {
-            name: own.body.get().name.as_slice(),
+            name: own.body.name(),
             id: *id,
         })?;
     }

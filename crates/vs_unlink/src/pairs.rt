@@ -76,7 +76,7 @@ fn pair_with_later(
             continue;
         }
         let b = node_at(nodes, other);
-        let dist = distance(a.body.get().bits.as_slice(), b.body.get().bits.as_slice());
+        let dist = distance(a.body.bits(), b.body.bits());
         found.push(Candidate { dist, one, other })?;
     }
     Ok(())
