@@ -1,16 +1,16 @@
 -- A reading goes on with what is left: what a loop over words keeps true.
-use Rattle.std.proofs.Common.{◌≡◌, ℕ, ◌+◌, ◌<◌, List, [], ◌∷◌, ◌++◌, length, drop, map, Option, Some, None, Bool, Ok, Err, refl, sym, ap, ◌∙◌, append_assoc, IfSome, arith, Result, get_or}
-use Rattle.std.proofs.lemmas.List.{map-append}
+use Rattle.std.proofs.Common.{◌≡◌, ℕ, ◌+◌, ◌<◌, List, [], ◌∷◌, ◌++◌, length, drop, map, Option, Some, None, Bool, true, false, cond, option_map, Ok, Err, refl, sym, ap, ◌∙◌, append_assoc, IfSome, arith, Result, get_or}
+use Rattle.std.specs.List.{prefix_len}
+use Rattle.std.specs.Prelude.{option_and_then}
 use Rattle.std.specs.Result.{IsErrAnd}
-use Rattle.vs_bits.specs.declared.sign.Sign.{Sign as Kept}
-use Rattle.vs_bits.specs.Seen.{sign_seen}
 use Rattle.vs_command.specs.declared.refusal.Refusal.{Refusal}
 use Rattle.vs_command.specs.Refusals.{refusal_of}
 use Rattle.vs_command.specs.Readings.{Gives}
 use Rattle.vs_defs.specs.Bytes.{Bytes}
 use Rattle.vs_defs.specs.Request as model
-use Rattle.vs_defs.specs.Numeral.{sign_of, bit_of, Sign}
-use Rattle.vs_defs.specs.Read.{Reads, ◌>>=◌, read_components, read_keys, read_key, word}
+use Rattle.vs_defs.specs.Numeral.{sign_of, bit_of, bits_of, is_numeral, Sign}
+use Rattle.vs_defs.specs.Vector.{Vector}
+use Rattle.vs_defs.specs.Read.{Reads, ◌>>=◌, read_component, read_components, read_keys, read_key, word}
 use Rattle.vs_command.proofs.Words.{drop-word, word_at}
 
 -- what is read, behind what was read before
@@ -25,17 +25,26 @@ pub behind-more : {A : Type 0} (front : List A) (x : A) (r : Reads (List A)) →
 behind-more front x (Ok xs) = ap Ok (sym (append_assoc front (x ∷ []) xs))
 behind-more front x (Err e) = refl
 
-pub component_more : (i : ℕ) (ws : List Bytes) (front : List Bool) (s : Sign) → i < length ws → sign_of (word ws i) ≡ Some s → behind front (read_components (4 + i) (drop i ws)) ≡ behind (front ++ bit_of s ∷ []) (read_components (4 + (i + 1)) (drop (i + 1) ws))
-component_more i ws front s h e =
-    let place : 4 + i + 1 ≡ 4 + (i + 1) = omega arith in
-    rw (drop-word ws i h, e, place) (behind-more front (bit_of s) (read_components (4 + (i + 1)) (drop (i + 1) ws)))
+-- where each component is a numeral
+pub components_read : (at : ℕ) (ws : List Bytes) (bits : Vector) → bits_of ws ≡ Some bits → read_components at ws ≡ Ok bits
+components_read at [] bits e = cc
+components_read at (w ∷ ws) bits e = by_sign (sign_of w) (bits_of ws) (read_components (at + 1) ws) e (components_read (at + 1) ws) where
+  by_sign : (o : Option Sign) (p : Option Vector) (r : Reads Vector) → option_and_then (λ s. option_map (λ v. bit_of s ∷ v) p) o ≡ Some bits → ((v : Vector) → p ≡ Some v → r ≡ Ok v) →
+      read_component at o >>= (λ bit. r >>= λ v. Ok (bit ∷ v)) ≡ Ok bits
+  by_sign None p r is f = cc
+  by_sign (Some s) None r is f = cc
+  by_sign (Some s) (Some v) r is f = let same : bit_of s ∷ v ≡ bits = cc in ap (λ (q : Reads Vector). q >>= λ v. Ok (bit_of s ∷ v)) (f v refl) ∙ ap Ok same
 
-pub component_next : (i : ℕ) (ws : List Bytes) (signs more : List Kept) (s : Kept) (w : Bytes) → i < length ws → w ≡ get_or ws i w → Some (sign_seen s) ≡ sign_of w → more ≡ signs ++ s ∷ [] →
-    behind (map bit_of (map sign_seen signs)) (read_components (4 + i) (drop i ws)) ≡ behind (map bit_of (map sign_seen more)) (read_components (4 + (i + 1)) (drop (i + 1) ws))
-component_next i ws signs more s w h at read pushed =
-    let here : w ≡ word ws i = word_at ws i w h at in
-    rw (pushed, map-append sign_seen signs (s ∷ []), map-append bit_of (map sign_seen signs) (sign_seen s ∷ []))
-    (component_more i ws (map bit_of (map sign_seen signs)) (sign_seen s) h (ap sign_of (sym here) ∙ sym read))
+-- where the first that is none is at this place
+pub component_refused : (at : ℕ) (ws : List Bytes) (place : ℕ) → prefix_len is_numeral ws ≡ place → place < length ws → read_components at ws ≡ Err (model.BadComponent (at + place))
+component_refused at [] place e less = absurd (omega arith)
+component_refused at (w ∷ ws) place e less = by_test (is_numeral w) _ (prefix_len is_numeral ws) (read_components (at + 1) ws) e (component_refused (at + 1) ws) where
+  by_test : (b : Bool) (s : Sign) (n : ℕ) (r : Reads Vector) → cond b (1 + n) 0 ≡ place → ((k : ℕ) → n ≡ k → k < length ws → r ≡ Err (model.BadComponent (at + 1 + k))) →
+      read_component at (cond b (Some s) None) >>= (λ bit. r >>= λ v. Ok (bit ∷ v)) ≡ Err (model.BadComponent (at + place))
+  by_test true s n r is f =
+      let here : at + 1 + n ≡ at + place = omega arith in
+      ap (λ (q : Reads Vector). q >>= λ v. Ok (bit_of s ∷ v)) (f n refl (omega arith)) ∙ ap (λ (k : ℕ). Err (model.BadComponent k)) here
+  by_test false s n r is f = let here : at ≡ at + place = omega arith in ap (λ (k : ℕ). Err (model.BadComponent k)) here
 
 -- a cause that ends a part ends the whole
 refused_as : {A B : Type 0} (cause : Option model.Refusal) (part : Reads A) (whole : Reads B) → IfSome cause (λ c. part ≡ Err c) → ((c : model.Refusal) → part ≡ Err c → whole ≡ Err c) → IfSome cause (λ c. whole ≡ Err c)

@@ -1,16 +1,14 @@
 //! The vector of a request: its dimension, and its components.
-ghost use Rattle.std.specs.Prelude.{◌≡◌, ◌<◌, ◌≤◌, ◌+◌, length, map, IfOk};
-ghost use Rattle.vs_bits.specs.Seen.{sign_seen};
+ghost use Rattle.std.specs.Prelude.{◌≡◌, ◌<◌, ◌≤◌, ◌+◌, length, IfOk};
 ghost use Rattle.vs_command.specs.Readings.{Gives, AreShort};
 ghost use Rattle.vs_defs.specs.Bounds.{IsVectorInBounds};
-ghost use Rattle.vs_defs.specs.Numeral.{bit_of};
 ghost use Rattle.vs_defs.specs.Read.{read_components as components_in, read_vector as vector_in};
 
 use crate::Refusal;
 use crate::word::{number_within, word};
 use std::alloc::Global;
-use vs_bits::{Bits, Sign, sign_of};
-use vs_outside::{List, Text};
+use vs_bits::{Bits, ComponentsError};
+use vs_outside::Text;
 
 /// The place of the first component in a message.
 const FIRST_COMPONENT: usize = 4;
@@ -18,25 +16,23 @@ const FIRST_COMPONENT: usize = 4;
 /// The most components of a vector.
 const COMPONENTS: u32 = 4096;
 
-// The signs of the components, each of which has to be a numeral.
-fn read_components(alloc: Global, components: &[Text]) -> Result<List<Sign>, Refusal>
-    requires { length components.now ≤ 4096 }
-    ensures signs { Gives (λ signs. map bit_of (map sign_seen signs)) result (components_in 4 components.now) }
-    ensures len { IfOk result (λ signs. length signs ≡ length components.now) }
+// The bits of the components, each of which has to be a numeral.
+fn read_components(alloc: Global, components: &[Text]) -> Result<Bits, Refusal>
+    requires some { 1 ≤ length components.now }
+    requires few { length components.now ≤ 4096 }
+    ensures bits { Gives (λ bits. bits) result (components_in 4 components.now) }
+    ensures len { IfOk result (λ bits. length bits ≡ length components.now) }
 {
-    let mut signs = List::new(alloc);
-    for (i, component) in components.iter().enumerate() {
-        let Some(sign) = sign_of(component.as_slice()) else {
-            return Err(Refusal::BadComponent {
-                at: (FIRST_COMPONENT + i) as u32,
-            });
-        };
-        signs.push(sign)?;
+    match Bits::from_numerals(alloc, components) {
+        Ok(bits) => Ok(bits),
+        Err(ComponentsError::NoMemory) => Err(Refusal::NoMemory),
+        Err(ComponentsError::BadComponent { place }) => Err(Refusal::BadComponent {
+            at: FIRST_COMPONENT as u32 + place,
+        }),
     }
-    Ok(signs)
 }
 
-/// The vector that stands from word 3 on: its dimension, and as many components, with `more` words or more behind them.
+/// The vector from word 3 on: its dimension, and as many components, with `more` words or more after them.
 pub(crate) fn read_vector(alloc: Global, more: usize, words: &[Text]) -> Result<Bits, Refusal>
     requires dim { 4 ≤ length words.now }
     requires more { more ≤ 1 }
@@ -56,9 +52,8 @@ pub(crate) fn read_vector(alloc: Global, more: usize, words: &[Text]) -> Result<
             have: have as u32,
         });
     }
-    let signs = read_components(
+    read_components(
         alloc,
         &words[FIRST_COMPONENT..FIRST_COMPONENT + dim as usize],
-    )?;
-    Ok(Bits::from_signs(alloc, signs.as_slice())?)
+    )
 }
