@@ -1,0 +1,4 @@
+pub mod Seats
+pub mod Name
+pub mod Work
+pub mod Knower
