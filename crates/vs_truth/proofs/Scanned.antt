@@ -75,4 +75,3 @@ pub distance_is : (q bits : Vector) (a b : List ℕ) → length bits ≡ length 
 distance_is q bits a b e p value kept =
     let other : bits_of_words (length q) b ≡ bits = ap (λ n. bits_of_words n b) (sym e) ∙ kept.same in
     words_ham-same (length q) a b p (subst (λ n. FitsDimension n b) e kept.fits) ∙ (λ t. ham (value t) (other t))
-
