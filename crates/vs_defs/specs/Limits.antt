@@ -99,3 +99,13 @@ max_members_in_all = 2 ^ 21
 -- accepted changes since it was made
 abbrev pub max_changes : ℕ
 max_changes = 2 ^ 62
+
+-- ---- what a schedule may have
+
+-- actors, at least one
+abbrev pub max_actors : ℕ
+max_actors = 64
+
+-- bytes of a line
+abbrev pub max_schedule_line_bytes : ℕ
+max_schedule_line_bytes = 1048576
