@@ -14,12 +14,11 @@ use crate::text::is_named;
 use crate::value::{member_at, value_end};
 use std::str;
 
-/// How many objects and arrays may be open in a member's value: 64 at most in
-/// the whole text.
-const MEMBER_DEPTH: u32 = 63;
-
 /// How many objects and arrays may be open in a text.
-const TEXT_DEPTH: u32 = 64;
+pub(crate) const MAX_JSON_DEPTH: u32 = 64;
+
+/// How many may be open in a member's value, which is in an object.
+const MEMBER_DEPTH: u32 = MAX_JSON_DEPTH - 1;
 
 /// The value of a member, which stands in front.
 fn member_value<'a>(text: &'a [u8]) -> Field<'a>
@@ -119,7 +118,7 @@ pub fn is_object(text: &[u8]) -> bool
     let Some(_) = mark_at(b'{', text) else {
         return false;
     };
-    match value_end(TEXT_DEPTH, text) {
+    match value_end(MAX_JSON_DEPTH, text) {
         Some(rest) => skip_space(rest).is_empty(),
         None => false,
     }

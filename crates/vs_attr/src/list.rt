@@ -7,14 +7,15 @@ ghost use Rattle.vs_defs.specs.Bytes.{first_in};
 ghost use Rattle.vs_attr.specs.Listed.{item_next, items_inside, IsArrayInside};
 ghost use Rattle.vs_attr.specs.Fields.{field_seen};
 
+use crate::find::MAX_JSON_DEPTH;
 use crate::kind::{Field, single};
 use crate::space::mark_at;
 use crate::value::value_end;
 use std::marker::Model;
 
-/// How many objects and arrays may be open in an item of a list, which stands
-/// in an array in an object: 64 at most in the whole text.
-const ITEM_DEPTH: u32 = 62;
+/// How many objects and arrays may be open in an item of a list, which is in
+/// an array in an object.
+const ITEM_DEPTH: u32 = MAX_JSON_DEPTH - 2;
 
 /// The text from the item behind the first on, if there is one.
 fn next_text(text: &[u8]) -> Option<&[u8]>

@@ -5,6 +5,7 @@
 use Rattle.std.specs.Prelude.{ℕ, ◌+◌, cond, nat_lt, List, IfSome, Ok, Err, length}
 use Rattle.vs_defs.specs.Bytes.{Bytes}
 use Rattle.vs_defs.specs.Bounds.{IsFrom, IsAttributeInBounds, IsFilterInBounds}
+use Rattle.vs_defs.specs.Limits.{max_ef, min_m, max_m, max_count, max_filter_ef}
 use Rattle.vs_defs.specs.Read.{Reads, ◌>>=◌, Takes, Alone, WithValue, AddOptions, SimOptions, word}
 use Rattle.vs_defs.specs.Request as request
 
@@ -16,7 +17,7 @@ taken (Alone r) at words = r >>= λ o. Ok (o, at + 1)
 taken (WithValue f) at words = value words at >>= λ v. f (at + 1) v >>= λ o. Ok (o, at + 2)
 
 abbrev pub AreAddOptionsInBounds : AddOptions → Type 0
-AreAddOptionsInBounds o = IsFrom 1 65536 o.ef × IfSome o.m (IsFrom 4 256) × IfSome o.attr IsAttributeInBounds
+AreAddOptionsInBounds o = IsFrom 1 max_ef o.ef × IfSome o.m (IsFrom min_m max_m) × IfSome o.attr IsAttributeInBounds
 
 abbrev pub AreSimOptionsInBounds : SimOptions → Type 0
-AreSimOptionsInBounds o = IsFrom 1 65536 o.count × IsFrom 1 65536 o.ef × IfSome o.filter IsFilterInBounds × IfSome o.filter_ef (IsFrom 0 2147483647)
+AreSimOptionsInBounds o = IsFrom 1 max_count o.count × IsFrom 1 max_ef o.ef × IfSome o.filter IsFilterInBounds × IfSome o.filter_ef (IsFrom 0 max_filter_ef)

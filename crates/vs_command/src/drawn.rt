@@ -4,9 +4,11 @@ ghost use Rattle.std.specs.List.{range_with_len};
 ghost use Rattle.vs_defs.specs.Bytes.{Bytes};
 ghost use Rattle.vs_command.specs.Requests.{request_of};
 ghost use Rattle.vs_defs.specs.Read.{draws as draws_of};
+ghost use Rattle.vs_defs.specs.Limits.{max_level};
 ghost use Rattle.vs_defs.specs.Draws.{level_of, place_of, name_at, picks as picks_of, shuffled};
 
 use crate::Request;
+use crate::limits::MAX_LEVEL;
 use std::alloc::Global;
 use vs_outside::{List, NoMemory};
 
@@ -41,9 +43,9 @@ pub fn draws(request: &Request) -> u32
 /// The level of a new member.
 pub fn level_of_word(word: u32) -> u8
     ensures level { result ≡ level_of word }
-    ensures bound { result ≤ 15 }
+    ensures bound { result ≤ max_level }
 {
-    (word.trailing_zeros() / 2).min(15) as u8
+    (word.trailing_zeros() / 2).min(MAX_LEVEL) as u8
 }
 
 /// The place that a word picks among `members` places.

@@ -4,6 +4,7 @@
 mod answer;
 mod command;
 mod drawn;
+mod limits;
 mod read;
 mod refusal;
 mod request;

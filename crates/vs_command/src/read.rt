@@ -10,6 +10,7 @@ ghost use Rattle.vs_defs.specs.Read as command;
 ghost use Rattle.vs_defs.specs.Stages.{is_plain, plain_read};
 
 use crate::command::Command;
+use crate::limits::MAX_PICKS;
 use crate::vadd::read_vadd;
 use crate::vsim::read_vsim;
 use crate::word::{is_word, read_attribute, read_key, read_name, word};
@@ -199,7 +200,7 @@ fn read_picks(rest: &[Text]) -> Result<Option<i32>, Refusal>
         return Ok(None);
     };
     match read_int(word.as_slice()) {
-        Some(count) if -65536 <= count && count <= 65536 => Ok(Some(count as i32)),
+        Some(count) if -MAX_PICKS <= count && count <= MAX_PICKS => Ok(Some(count as i32)),
         _ => Err(Refusal::BadCount { at: 2 }),
     }
 }

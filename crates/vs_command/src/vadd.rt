@@ -5,10 +5,12 @@ ghost use Rattle.vs_command.specs.Options.{taken, AreAddOptionsInBounds};
 ghost use Rattle.vs_command.specs.Readings.{Gives, AreShort};
 ghost use Rattle.vs_command.specs.Words.{add_option_seen, add_options_seen};
 ghost use Rattle.vs_defs.specs.Bounds.{IsFrom, IsAddInBounds};
+ghost use Rattle.vs_defs.specs.Limits.{min_m, max_m};
 ghost use Rattle.vs_defs.specs.Read.{add_option, add_options, find_add_option, named, no_add_options, read_add_form as form_in, read_number, read_options, read_vadd as vadd_in};
 ghost use Rattle.vs_defs.specs.Request as request;
 
 use crate::Refusal;
+use crate::limits::{MAX_M, MIN_M};
 use crate::vector::read_vector;
 use crate::word::{
     is_word, number_within, read_attribute, read_ef, read_key, read_name, value, word,
@@ -51,10 +53,10 @@ impl AddOption {
 
 fn read_m(word: &Text, at: usize) -> Result<u16, Refusal>
     requires { at < 2 ^ 32 }
-    ensures m { Gives (λ m. m) result (read_number 4 256 (request.BadM at) word.now) }
-    ensures bounds { IfOk result (IsFrom 4 256) }
+    ensures m { Gives (λ m. m) result (read_number min_m max_m (request.BadM at) word.now) }
+    ensures bounds { IfOk result (IsFrom min_m max_m) }
 {
-    match number_within(word, 4, 256) {
+    match number_within(word, MIN_M, MAX_M) {
         Some(m) => Ok(m as u16),
         None => Err(Refusal::BadM { at: at as u32 }),
     }

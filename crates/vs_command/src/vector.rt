@@ -2,9 +2,11 @@
 ghost use Rattle.std.specs.Prelude.{◌≡◌, ◌<◌, ◌≤◌, ◌+◌, length, IfOk};
 ghost use Rattle.vs_command.specs.Readings.{Gives, AreShort};
 ghost use Rattle.vs_defs.specs.Bounds.{IsVectorInBounds};
+ghost use Rattle.vs_defs.specs.Limits.{max_components};
 ghost use Rattle.vs_defs.specs.Read.{read_components as components_in, read_vector as vector_in};
 
 use crate::Refusal;
+use crate::limits::MAX_COMPONENTS;
 use crate::word::{number_within, word};
 use std::alloc::Global;
 use vs_bits::{Bits, ComponentsError};
@@ -13,13 +15,10 @@ use vs_outside::Text;
 /// The place of the first component in a message.
 const FIRST_COMPONENT: usize = 4;
 
-/// The most components of a vector.
-const COMPONENTS: u32 = 4096;
-
 // The bits of the components, each of which has to be a numeral.
 fn read_components(alloc: Global, components: &[Text]) -> Result<Bits, Refusal>
     requires some { 1 ≤ length components.now }
-    requires few { length components.now ≤ 4096 }
+    requires few { length components.now ≤ max_components }
     ensures bits { Gives (λ bits. bits) result (components_in 4 components.now) }
     ensures len { IfOk result (λ bits. length bits ≡ length components.now) }
 {
@@ -41,7 +40,7 @@ pub(crate) fn read_vector(alloc: Global, more: usize, words: &[Text]) -> Result<
     ensures bounds { IfOk result IsVectorInBounds }
     ensures room { IfOk result (λ bits. 4 + length bits + more ≤ length words.now) }
 {
-    let Some(dim) = number_within(word(words, 3), 1, COMPONENTS) else {
+    let Some(dim) = number_within(word(words, 3), 1, MAX_COMPONENTS) else {
         return Err(Refusal::BadDimension { at: 3 });
     };
     let want = dim as usize + more;

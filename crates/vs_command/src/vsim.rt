@@ -5,18 +5,17 @@ ghost use Rattle.vs_command.specs.Readings.{Gives, AreShort};
 ghost use Rattle.vs_command.specs.Requests.{search_of, what_of};
 ghost use Rattle.vs_command.specs.Words.{sim_option_seen, sim_options_seen};
 ghost use Rattle.vs_defs.specs.Bounds.{IsFrom, IsFilterInBounds, IsSearchInBounds, IsWhatInBounds};
+ghost use Rattle.vs_defs.specs.Limits.{max_count, max_filter_ef};
 ghost use Rattle.vs_defs.specs.Read.{find_sim_option, sim_option, sim_options, named, no_sim_options, effort_of, read_filter as filter_in, read_number, read_options, read_what as what_in, read_vsim as vsim_in};
 ghost use Rattle.vs_defs.specs.Request as request;
 
+use crate::limits::{MAX_COUNT, MAX_FILTER_BYTES, MAX_FILTER_EF};
 use crate::vector::read_vector;
 use crate::word::{is_word, number_within, read_ef, read_key, read_name, value, word};
 use crate::{Refusal, Search, What};
 use std::alloc::Global;
 use vs_filter::{Filter, FilterError};
 use vs_outside::Text;
-
-/// The most bytes of a filter.
-const FILTER_BYTES: usize = 4096;
 
 #[derive(Clone, Copy)]
 enum SimOption {
@@ -61,18 +60,18 @@ impl SimOption {
 
 fn read_count(word: &Text, at: usize) -> Result<u32, Refusal>
     requires { at < 2 ^ 32 }
-    ensures count { Gives (λ n. n) result (read_number 1 65536 (request.BadCount at) word.now) }
-    ensures bounds { IfOk result (IsFrom 1 65536) }
+    ensures count { Gives (λ n. n) result (read_number 1 max_count (request.BadCount at) word.now) }
+    ensures bounds { IfOk result (IsFrom 1 max_count) }
 {
-    number_within(word, 1, 65536).ok_or(Refusal::BadCount { at: at as u32 })
+    number_within(word, 1, MAX_COUNT).ok_or(Refusal::BadCount { at: at as u32 })
 }
 
 fn read_filter_ef(word: &Text, at: usize) -> Result<u32, Refusal>
     requires { at < 2 ^ 32 }
-    ensures limit { Gives (λ n. n) result (read_number 0 2147483647 (request.BadFilterEf at) word.now) }
-    ensures bounds { IfOk result (IsFrom 0 2147483647) }
+    ensures limit { Gives (λ n. n) result (read_number 0 max_filter_ef (request.BadFilterEf at) word.now) }
+    ensures bounds { IfOk result (IsFrom 0 max_filter_ef) }
 {
-    number_within(word, 0, 2147483647).ok_or(Refusal::BadFilterEf { at: at as u32 })
+    number_within(word, 0, MAX_FILTER_EF).ok_or(Refusal::BadFilterEf { at: at as u32 })
 }
 
 fn read_filter(alloc: Global, text: &Text) -> Result<Filter, Refusal>
@@ -80,7 +79,7 @@ fn read_filter(alloc: Global, text: &Text) -> Result<Filter, Refusal>
     ensures filter { Gives (λ filter. filter) result (filter_in text.now) }
     ensures bounds { IfOk result IsFilterInBounds }
 {
-    if text.len() > FILTER_BYTES {
+    if text.len() > MAX_FILTER_BYTES {
         return Err(Refusal::LongFilter {
             len: text.len() as u32,
         });
@@ -175,7 +174,7 @@ impl SimOptions {
 
     // How many members a filtered search may try: 100 times COUNT where FILTER-EF isn't given, and 0 without a filter.
     fn effort(&self) -> u32
-        requires { self.now.count ≤ 65536 }
+        requires { self.now.count ≤ max_count }
         ensures { result ≡ effort_of (sim_options_seen self.now).filter (sim_options_seen self.now).filter_ef self.now.count }
     {
         match (&self.filter, self.filter_ef) {

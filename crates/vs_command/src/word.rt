@@ -6,18 +6,14 @@ ghost use Rattle.vs_command.specs.Options.{value as value_in};
 ghost use Rattle.vs_defs.specs.Bounds.{IsNameInBounds, IsAttributeInBounds, IsFrom};
 ghost use Rattle.vs_defs.specs.Bytes.{is_word as names};
 ghost use Rattle.vs_defs.specs.Decimal.{read_int as int_in};
+ghost use Rattle.vs_defs.specs.Limits.{max_ef};
 ghost use Rattle.vs_defs.specs.Read.{word as word_in, read_key as key_in, read_name as name_in, read_attribute as attribute_in, option_within, read_number as number_in};
 ghost use Rattle.vs_defs.specs.Request as request;
 
 use crate::Refusal;
+use crate::limits::{MAX_ATTRIBUTE_BYTES, MAX_EF, MAX_NAME_BYTES};
 use vs_decimal::read_int;
 use vs_outside::Text;
-
-/// The most bytes of a key or a name.
-const NAME_BYTES: usize = 1024;
-
-/// The most bytes of an attribute.
-const ATTRIBUTE_BYTES: usize = 16384;
 
 /// The word at a place.
 pub(crate) fn word(words: &[Text], at: usize) -> &Text
@@ -43,7 +39,7 @@ pub(crate) fn read_key(word: &Text) -> Result<Text, Refusal>
     ensures key { Gives (λ key. key) result (key_in word.now) }
     ensures bounds { IfOk result IsNameInBounds }
 {
-    if word.len() < 1 || NAME_BYTES < word.len() {
+    if word.len() < 1 || MAX_NAME_BYTES < word.len() {
         return Err(Refusal::BadKey {
             len: word.len() as u32,
         });
@@ -57,7 +53,7 @@ pub(crate) fn read_name(word: &Text) -> Result<Text, Refusal>
     ensures name { Gives (λ name. name) result (name_in word.now) }
     ensures bounds { IfOk result IsNameInBounds }
 {
-    if word.len() < 1 || NAME_BYTES < word.len() {
+    if word.len() < 1 || MAX_NAME_BYTES < word.len() {
         return Err(Refusal::BadName {
             len: word.len() as u32,
         });
@@ -71,7 +67,7 @@ pub(crate) fn read_attribute(word: &Text) -> Result<&Text, Refusal>
     ensures attribute { Gives (λ text. text.now) result (attribute_in word.now) }
     ensures bounds { IfOk result (λ text. IsAttributeInBounds text.now) }
 {
-    if word.len() > ATTRIBUTE_BYTES {
+    if word.len() > MAX_ATTRIBUTE_BYTES {
         return Err(Refusal::LongAttribute {
             len: word.len() as u32,
         });
@@ -106,10 +102,10 @@ pub(crate) fn number_within(word: &Text, least: u32, most: u32) -> Option<u32>
 /// The value of EF, at its place.
 pub(crate) fn read_ef(word: &Text, at: usize) -> Result<u32, Refusal>
     requires { at < 2 ^ 32 }
-    ensures ef { Gives (λ ef. ef) result (number_in 1 65536 (request.BadEf at) word.now) }
-    ensures bounds { IfOk result (IsFrom 1 65536) }
+    ensures ef { Gives (λ ef. ef) result (number_in 1 max_ef (request.BadEf at) word.now) }
+    ensures bounds { IfOk result (IsFrom 1 max_ef) }
 {
-    match number_within(word, 1, 65536) {
+    match number_within(word, 1, MAX_EF) {
         Some(ef) => Ok(ef),
         None => Err(Refusal::BadEf { at: at as u32 }),
     }

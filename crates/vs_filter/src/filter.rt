@@ -1,6 +1,7 @@
 //! A filter: its text, and the expression that the text spells.
 ghost use Rattle.std.specs.Prelude.{◌≡◌, ◌≤◌, ℕ, List as Items, length, true, Some, IfOk, IfErr, option_copied};
 ghost use Rattle.vs_defs.specs.FilterText.{filter_of, is_filter, passes_filter};
+ghost use Rattle.vs_defs.specs.Limits.{max_filter_bytes};
 ghost use Rattle.vs_filter.specs.Rules.{IsFault};
 
 use crate::code::{self, Instruction};
@@ -16,7 +17,7 @@ use vs_attr::is_object;
 use vs_outside::{List, NoMemory, Text};
 
 /// How many parentheses, negations and minus signs may be open at once.
-const DEPTH: u32 = 64;
+const MAX_FILTER_DEPTH: u32 = 64;
 
 /// A filter, which a contract sees as its text.
 #[derive(Drop)]
@@ -40,14 +41,14 @@ impl Model for Filter {
 impl Filter {
     /// Reads a text of at most 4,096 bytes.
     pub fn parse(alloc: Global, text: &[u8]) -> Result<Filter, FilterError>
-        requires { length text.now ≤ 4096 }
+        requires { length text.now ≤ max_filter_bytes }
         ensures ok { IfOk result (λ f. (f ≡ text.now) × (is_filter text.now ≡ true)) }
         ensures err { IfErr result (λ e. IsFault (filter_of text.now) e) }
     {
         let tokens = tokens_of(alloc, text)?;
         let turns = 8 * tokens.len() as u32 + 8;
         let mut code = List::new(alloc);
-        let rest = expr_within(alloc, turns, Rule::Or, DEPTH, tokens.as_slice(), &mut code)?;
+        let rest = expr_within(alloc, turns, Rule::Or, MAX_FILTER_DEPTH, tokens.as_slice(), &mut code)?;
         if !is_end(rest) {
             return Err(syntax_at(rest));
         }
