@@ -1,5 +1,5 @@
 //! The jobs of one thread.
-ghost use Rattle.std.specs.Prelude.{◌≡◌, ◌<◌, ◌⊎◌};
+ghost use Rattle.std.specs.Prelude.{◌≡◌, ◌≢◌, ◌<◌, ◌⊎◌, ◌↔◌};
 ghost use Rattle.vs_outside.specs.Known.{Adds};
 ghost use Rattle.vs_args.specs.Words.{job_named};
 ghost use Rattle.vs_program.specs.Jobs.{Does, Refuses, bad_words};
@@ -34,8 +34,8 @@ pub fn run_alone<S: Source, K: Sink>(
 ) -> Status
     ensures job { Does (job_named words.now) result (S.left source.old) (S.left source.new) (K.written sink.old) (K.written sink.new) }
     ensures bad_words { result ≡ Status.BadWords → (K.faults sink.old < K.faults sink.new) ⊎ Adds (K.written sink.old) bad_words (K.written sink.new) }
-    ensures read_fault { result ≡ Status.ReadFault → S.faults source.old < S.faults source.new }
-    ensures write_fault { result ≡ Status.WriteFault → K.faults sink.old < K.faults sink.new }
+    ensures read_fault { (result ≡ Status.ReadFault) ↔ (S.faults source.old < S.faults source.new) }
+    ensures write_fault { result ≢ Status.BadWords → ((result ≡ Status.WriteFault) ↔ (K.faults sink.old < K.faults sink.new)) }
 {
     match read_words(alloc, words) {
         Ok(job) => match job {

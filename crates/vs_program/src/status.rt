@@ -6,7 +6,7 @@ use vs_connection::SessionEnd;
 
 /// How the program ends.
 ///
-/// - `Done`: the input ended behind a whole message, or QUIT was answered.
+/// - `Done`: the input ended after a whole message, or QUIT was answered.
 /// - `BadWords`: the words name no job.
 /// - `Protocol`: the input has a fault.
 /// - `CutShort`: the input ended within a message.
