@@ -3,3 +3,5 @@ pub mod Calls
 pub mod Serving
 pub mod Sessions
 pub mod Ends
+pub mod Faults
+pub mod Pings

@@ -1,12 +1,13 @@
 -- Messages served in turn: one more at the end.
-use Rattle.std.proofs.Common.{◌≡◌, Bool, List, [], ◌∷◌, ◌++◌, refl, sym, ap, subst, ◌∙◌, append_assoc, append-nil, true, false}
-use Rattle.std.specs.Prelude.{MatchBool}
+use Rattle.std.proofs.Common.{◌≡◌, ◌≢◌, ◌<◌, length, All, arith, Bool, List, [], ◌∷◌, ◌++◌, refl, sym, ap, subst, ◌∙◌, append_assoc, append-nil, true, false}
+use Rattle.std.specs.Prelude.{MatchBool, IsTrue, zip}
+use Rattle.std.proofs.lemmas.List.Elements.{All-tail, All-cons}
 use Rattle.rand_pcg.specs.Lcg.{Lcg}
 use Rattle.vs_defs.specs.Bytes.{Bytes}
 use Rattle.vs_defs.specs.Stream.{Message}
-use Rattle.vs_defs.specs.Reply.{Outcome, reply}
+use Rattle.vs_defs.specs.Reply.{Outcome, OutOfMemory, reply}
 use Rattle.vs_defs.specs.PlainMachine.{PlainHistory}
-use Rattle.vs_session_defs.specs.Session.{is_bye, quits, replies, last_reply}
+use Rattle.vs_session_defs.specs.Session.{is_bye, quits, replies, last_reply, is_ping_or_quit, PingsAnswered}
 use Rattle.vs_connection.specs.Stage.{Serves, ServesOne}
 
 pub replies_push : (os : List Outcome) (o : Outcome) → replies (os ++ o ∷ []) ≡ replies os ++ reply o
@@ -45,3 +46,26 @@ serves_push g s (n ∷ l ∷ ms) (p ∷ q ∷ os) t h m o u i (mid, k, first, en
     later : (b : Bool) → MatchBool b (l ∷ ms ≡ []) (Unit {0}) → MatchBool b (l ∷ (ms ++ m ∷ []) ≡ []) (Unit {0})
     later true e = absurd (cc)
     later false e = tt
+
+-- ---- PING and QUIT are never out of memory
+
+abbrev IsAnswered : Message × Outcome → Type 0
+IsAnswered p = IsTrue (is_ping_or_quit p.0) → p.1 ≢ OutOfMemory
+
+none_all : {X : Type 0} (P : X → Type 0) → All P []
+none_all P = λ k d h. absurd (omega (arith, h))
+
+pub none_pinged : PingsAnswered [] []
+none_pinged = none_all IsAnswered
+
+first_of : {X : Type 0} (P : X → Type 0) (x : X) (xs : List X) → All P (x ∷ xs) → P x
+first_of P x xs all = all 0 x (omega arith)
+
+pub pings_push : (g : Lcg) (s : PlainHistory) (ms : List Message) (os : List Outcome) (t : PlainHistory) (h : Lcg) (m : Message) (o : Outcome) →
+    Serves g s ms os t h → PingsAnswered ms os → IsAnswered (m, o) → PingsAnswered (ms ++ m ∷ []) (os ++ o ∷ [])
+pings_push g s [] [] t h m o w all one = All-cons IsAnswered (m, o) [] one (none_all IsAnswered)
+pings_push g s [] (p ∷ os) t h m o w all one = absurd w
+pings_push g s (n ∷ ms) [] t h m o w all one = absurd w
+pings_push g s (n ∷ ms) (p ∷ os) t h m o (mid, k, first, end, rest) all one =
+    All-cons IsAnswered (n, p) (zip (ms ++ m ∷ []) (os ++ o ∷ [])) (first_of IsAnswered (n, p) (zip ms os) all)
+    (pings_push k mid ms os t h m o rest (All-tail IsAnswered (n, p) (zip ms os) all) one)

@@ -1,3 +1,4 @@
+pub mod Point
 pub mod Stage
 pub mod Written
 pub mod Own

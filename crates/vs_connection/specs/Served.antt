@@ -1,11 +1,11 @@
 -- A message that was served, and what was written of its reply.
-use Rattle.std.specs.Prelude.{◌≡◌, ◌≤◌, ◌++◌, Option, true, false, length}
+use Rattle.std.specs.Prelude.{◌≡◌, ◌≢◌, ◌≤◌, ◌++◌, Option, true, false, IsTrue, length}
 use Rattle.rand_pcg.specs.Lcg.{Lcg}
 use Rattle.vs_defs.specs.Bytes.{Bytes}
 use Rattle.vs_defs.specs.Stream.{Message}
-use Rattle.vs_defs.specs.Reply.{Outcome, reply}
+use Rattle.vs_defs.specs.Reply.{Outcome, OutOfMemory, reply}
 use Rattle.vs_defs.specs.PlainMachine.{PlainHistory}
-use Rattle.vs_session_defs.specs.Session.{is_bye}
+use Rattle.vs_session_defs.specs.Session.{is_bye, is_ping_or_quit}
 use Rattle.vs_outside.specs.Known.{Adds}
 use Rattle.vs_connection.specs.declared.handler.Replied.{Replied}
 use Rattle.vs_connection.specs.declared.handler.Replied.TheVariants.{Whole, Bye, Failed}
@@ -18,6 +18,14 @@ IsReplied Whole before after o = (is_bye o ≡ false) × Adds before (reply o) a
 IsReplied Bye before after o = (is_bye o ≡ true) × Adds before (reply o) after
 IsReplied Failed before after o = (done : Bytes) × (lost : Bytes) × (reply o ≡ done ++ lost) × (1 ≤ length lost) × Adds before done after
 
--- from a history and a generator, by a message, to where the server stands now; the outcome is replied
-abbrev pub IsServed : (PlainHistory → Lcg → Type 0) → (Outcome → Type 0) → Lcg → PlainHistory → Message → Type 0
-IsServed now replied g h message = (o : Outcome) × (t : PlainHistory) × (g' : Lcg) × ServesOne g h message o t g' × now t g' × IsOwn t × replied o
+-- A message, from one history and generator to another, of which now holds. The outcome is replied; a PING or a QUIT of one word is never
+-- out of memory.
+pub record IsServed (now : PlainHistory → Lcg → Type 0) (replied : Outcome → Type 0) (g : Lcg) (h : PlainHistory) (message : Message) : Type 0 where
+  pub outcome : Outcome
+  pub history : PlainHistory
+  pub generator : Lcg
+  pub serves : ServesOne g h message outcome history generator
+  pub now_is : now history generator
+  pub own : IsOwn history
+  pub answered : IsTrue (is_ping_or_quit message) → outcome ≢ OutOfMemory
+  pub is_replied : replied outcome

@@ -1,12 +1,12 @@
 -- A connection that goes on.
-use Rattle.std.specs.Prelude.{◌≡◌, List, [], false, true, Option, Some, None}
+use Rattle.std.specs.Prelude.{◌≡◌, List, false, true, Option, Some, None}
 use Rattle.rand_pcg.specs.Lcg.{Lcg}
 use Rattle.vs_defs.specs.Bytes.{Bytes}
 use Rattle.vs_defs.specs.Stream.{Message}
 use Rattle.vs_defs.specs.Reply.{Outcome}
 use Rattle.vs_defs.specs.PlainMachine.{PlainHistory}
-use Rattle.vs_session_defs.specs.Session.{quits, replies}
-use Rattle.vs_stream.specs.Given.{GivenAll, GivenFirst}
+use Rattle.vs_session_defs.specs.Session.{quits, replies, PingsAnswered}
+use Rattle.vs_stream.specs.Given.{GivenAll, GivenFirst, GivenBefore}
 use Rattle.vs_stream.specs.Place.{BeginsStream}
 use Rattle.vs_resp.specs.declared.Decoder.{Decoder}
 use Rattle.vs_resp.specs.declared.FeedError.TheVariants.{NoMemory}
@@ -14,13 +14,15 @@ use Rattle.vs_resp.specs.Stands.{Stands, failure}
 use Rattle.vs_connection.specs.declared.end.SessionEnd.{SessionEnd}
 use Rattle.vs_connection.specs.Stage.{Serves}
 use Rattle.vs_connection.specs.Own.{IsOwn}
-use Rattle.vs_connection.specs.Connection.{EndsWith}
+use Rattle.vs_connection.specs.Point.{Point}
+use Rattle.vs_connection.specs.Connection.{EndsAt}
 
 -- These bytes were taken, these messages of them were answered, with these outcomes, and these bytes were written. now says where the
--- server stands.
-pub record SoFar (decoder : Decoder) (now : PlainHistory → Lcg → Type 0) (start : Lcg) (input : Bytes) (given : List Message) (outcomes : List Outcome) (output : Bytes) (h : PlainHistory) (g : Lcg) : Type 0 where
+-- handler is.
+pub record SoFar (decoder : Decoder) (now : PlainHistory → Lcg → Type 0) (start : Point) (input : Bytes) (given : List Message) (outcomes : List Outcome) (output : Bytes) (h : PlainHistory) (g : Lcg) : Type 0 where
   pub stands : Stands decoder input given
-  pub serves : Serves start [] given outcomes h g
+  pub serves : Serves start.generator start.history given outcomes h g
+  pub pings : PingsAnswered given outcomes
   pub going : quits outcomes ≡ false
   pub written : output ≡ replies outcomes
   pub now_is : now h g
@@ -31,7 +33,7 @@ abbrev pub HasGiven : Decoder → Type 0
 HasGiven decoder = (input : Bytes) × (given : List Message) × Stands decoder input given
 
 -- all messages that were ready are answered
-pub record Answered (decoder : Decoder) (now : PlainHistory → Lcg → Type 0) (start : Lcg) (input output : Bytes) : Type 0 where
+pub record Answered (decoder : Decoder) (now : PlainHistory → Lcg → Type 0) (start : Point) (input output : Bytes) : Type 0 where
   pub given : List Message
   pub outcomes : List Outcome
   pub history : PlainHistory
@@ -39,14 +41,15 @@ pub record Answered (decoder : Decoder) (now : PlainHistory → Lcg → Type 0) 
   pub so_far : SoFar decoder now start input given outcomes output history generator
   pub first : GivenFirst true input given
   pub all : (failure decoder ≡ Some NoMemory → ⊥) → GivenAll true input given
+  pub before : failure decoder ≡ Some NoMemory → GivenBefore true input given
 
 -- the connection goes on, or this is its end
-abbrev pub AllAnswered : Option SessionEnd → Decoder → (PlainHistory → Lcg → Type 0) → Lcg → Bytes → Bytes → Type 0
+abbrev pub AllAnswered : Option SessionEnd → Decoder → (PlainHistory → Lcg → Type 0) → Point → Bytes → Bytes → Type 0
 AllAnswered None decoder now start input output = Answered decoder now start input output
-AllAnswered (Some end) decoder now start input output = EndsWith end start input output
+AllAnswered (Some end) decoder now start input output = EndsAt now end start input output
 
 -- between two reads: all messages of the bytes taken are answered, and the bytes have no fault
-pub record Going (decoder : Decoder) (now : PlainHistory → Lcg → Type 0) (start : Lcg) (input output : Bytes) : Type 0 where
+pub record Going (decoder : Decoder) (now : PlainHistory → Lcg → Type 0) (start : Point) (input output : Bytes) : Type 0 where
   pub answered : Answered decoder now start input output
   pub begins : BeginsStream true input
   pub going : failure decoder ≡ None

@@ -10,6 +10,7 @@ use Rattle.vs_defs.specs.Store.{PlainStore, usual_limits}
 use Rattle.vs_defs.specs.Stream.{Message}
 use Rattle.vs_defs.specs.PlainMachine.{PlainHistory, PlainLegal, PlainCall, store_of}
 use Rattle.vs_session_defs.specs.Session as session
+use Rattle.vs_connection.specs.Point.{Point}
 
 abbrev pub Call : ℕ → PlainHistory → Request → List ℕ → Outcome → PlainHistory → Type 0
 Call = PlainCall usual_limits
@@ -33,5 +34,22 @@ ServesOne = session.ServesOne Call true read draws 0
 abbrev pub Serves : Lcg → PlainHistory → List Message → List Outcome → PlainHistory → Lcg → Type 0
 Serves = session.Serves Call true read draws 0
 
-abbrev pub Begun : Lcg → List ℕ → List ℕ → PlainHistory → Lcg → Type 0
-Begun g = session.Begun Call true read draws 0 g []
+-- ---- a connection of the author 0, from one point to another
+
+abbrev pub Begun : Point → Bytes → Bytes → Point → Type 0
+Begun start input output now = session.Begun Call true read draws 0 start.generator start.history input output now.history now.generator
+
+abbrev pub Finished : Point → Bytes → Bytes → Point → session.Ending → Type 0
+Finished start input output now how = session.Finished Call true read draws 0 start.generator start.history input output now.history now.generator how
+
+abbrev pub ReadPart : Point → Bytes → Bytes → Point → Type 0
+ReadPart start input output now = session.ReadPart Call true read draws 0 start.generator start.history input output now.history now.generator
+
+abbrev pub MemoryPart : Point → Bytes → Bytes → Point → Type 0
+MemoryPart start input output now = session.MemoryPart Call true read draws 0 start.generator start.history input output now.history now.generator
+
+abbrev pub LacksOfReply : Point → Bytes → Bytes → Point → Type 0
+LacksOfReply start input output now = session.LacksOfReply Call true read draws 0 start.generator start.history input output now.history now.generator
+
+abbrev pub LacksOfFault : Point → Bytes → Bytes → Point → Type 0
+LacksOfFault start input output now = session.LacksOfFault Call true read draws 0 start.generator start.history input output now.history now.generator

@@ -1,5 +1,5 @@
 //! What serves the messages of a connection, one after another.
-ghost use Rattle.std.specs.Prelude.{◌≡◌, ◌<◌, ◌≤◌, length, All};
+ghost use Rattle.std.specs.Prelude.{◌≡◌, ◌≢◌, ◌<◌, ◌≤◌, length, All};
 ghost use Rattle.rand_pcg.specs.Lcg.{Lcg};
 ghost use Rattle.vs_defs.specs.PlainMachine.{PlainHistory};
 ghost use Rattle.vs_connection.specs.Served.{IsServed, IsReplied};
@@ -20,7 +20,7 @@ pub enum Replied {
 
 /// Serves messages: reads a request from the words, draws its random words, carries it out, and writes the reply.
 pub trait Handler {
-    /// It stands behind this history of its own changes, with this generator of the words to be drawn.
+    /// This is the history of its own changes so far, and the generator of the words to be drawn.
     ghost after: { Self → PlainHistory → Lcg → Type 0 };
 
     /// Serves one message of 1 to 65,536 words of at most 65,536 bytes each. The reply is written whole unless the sink fails.
@@ -30,6 +30,6 @@ pub trait Handler {
         requires short { All (λ word. length word ≤ 65536) message.now }
         ensures served { (h : PlainHistory) (g : Lcg) → after self.old h g → IsOwn h
             → IsServed (after self.new) (IsReplied result (K.written sink.old) (K.written sink.new)) g h message.now }
-        ensures faults { K.faults sink.old ≤ K.faults sink.new }
-        ensures failed { result ≡ Replied.Failed → K.faults sink.old < K.faults sink.new };
+        ensures failed { result ≡ Replied.Failed → K.faults sink.old < K.faults sink.new }
+        ensures unfailed { result ≢ Replied.Failed → K.faults sink.new ≡ K.faults sink.old };
 }

@@ -1,5 +1,5 @@
 //! A connection, from its first byte to its end.
-ghost use Rattle.std.specs.Prelude.{◌≡◌, ◌<◌, ◌≤◌, ◌++◌, false, ◌⊎◌, List, [], Some, IfSome, IfOk, length, vec_len};
+ghost use Rattle.std.specs.Prelude.{◌≡◌, ◌≢◌, ◌<◌, ◌++◌, true, false, ◌⊎◌, ◌↔◌, List, Some, IfSome, IfOk, length, vec_len};
 ghost use Rattle.rand_pcg.specs.Lcg.{Lcg};
 ghost use Rattle.vs_defs.specs.Bytes.{Bytes};
 ghost use Rattle.vs_defs.specs.Stream.{Message};
@@ -8,7 +8,9 @@ ghost use Rattle.vs_defs.specs.PlainMachine.{PlainHistory};
 ghost use Rattle.vs_outside.specs.Known.{Adds, in_front, NothingLeft};
 ghost use Rattle.vs_resp.specs.Stands.{Stands, failure, bytes_taken, fault_of};
 ghost use Rattle.vs_connection.specs.Written.{WrittenOf};
-ghost use Rattle.vs_connection.specs.Connection.{EndsWith};
+ghost use Rattle.vs_connection.specs.Point.{Point};
+ghost use Rattle.vs_connection.specs.Own.{IsOwn};
+ghost use Rattle.vs_connection.specs.Connection.{EndsAt};
 ghost use Rattle.vs_connection.specs.SoFar.{SoFar, AllAnswered, HasGiven};
 
 use crate::SessionEnd;
@@ -27,14 +29,14 @@ fn answer_all<H: Handler, K: Sink>(
 ) -> Option<SessionEnd>
     requires given { HasGiven decoder.old }
     ensures given { HasGiven decoder.new }
-    ensures session { (start : Lcg) (input : Bytes) (given : List Message) (outcomes : List Outcome) (output : Bytes) (h : PlainHistory) (g : Lcg) →
+    ensures session { (start : Point) (input : Bytes) (given : List Message) (outcomes : List Outcome) (output : Bytes) (h : PlainHistory) (g : Lcg) →
         SoFar decoder.old (H.after handler.old) start input given outcomes output h g →
         (more : Bytes) × Adds (K.written sink.old) more (K.written sink.new) × AllAnswered result decoder.new (H.after handler.new) start input (output ++ more) }
     ensures failure { failure decoder.new ≡ failure decoder.old }
     ensures taken { bytes_taken decoder.new ≡ bytes_taken decoder.old }
     ensures ends { IfSome result (λ end. (end ≡ SessionEnd.Quit) ⊎ (end ≡ SessionEnd.WriteFault)) }
-    ensures faults { K.faults sink.old ≤ K.faults sink.new }
     ensures failed { result ≡ Some SessionEnd.WriteFault → K.faults sink.old < K.faults sink.new }
+    ensures unfailed { result ≢ Some SessionEnd.WriteFault → K.faults sink.new ≡ K.faults sink.old }
 {
     while let Some(message) = decoder.next() {
         match handler.handle(message.as_slice(), sink) {
@@ -51,8 +53,8 @@ const SPENT: u64 = 1 << 62;
 // Whether a protocol fault's line was written whole.
 fn write_fault<K: Sink>(fault: Fault, at: u64, sink: &mut K) -> bool
     ensures written { WrittenOf (K.written sink.old) (fault_line_of (fault_of fault) at) result (K.written sink.new) }
-    ensures faults { K.faults sink.old ≤ K.faults sink.new }
     ensures failed { result ≡ false → K.faults sink.old < K.faults sink.new }
+    ensures unfailed { result ≡ true → K.faults sink.new ≡ K.faults sink.old }
 {
     let line = fault_line(fault, at);
     write_all(sink, line.as_slice())
@@ -68,11 +70,14 @@ fn serve_with<H: Handler, S: Source, K: Sink>(
 ) -> SessionEnd
     requires some { 0 < length buffer.old }
     requires few { length buffer.old < 65536 }
-    ensures session { (g : Lcg) → H.after handler.old [] g → (input : Bytes) × (output : Bytes) × (S.left source.old ≡ in_front input (S.left source.new))
-        × Adds (K.written sink.old) output (K.written sink.new) × EndsWith result g input output }
+    ensures session { (start : Point) → H.after handler.old start.history start.generator → IsOwn start.history
+        → (input : Bytes) × (output : Bytes) × (S.left source.old ≡ in_front input (S.left source.new))
+        × Adds (K.written sink.old) output (K.written sink.new) × EndsAt (H.after handler.new) result start input output }
     ensures end { (result ≡ SessionEnd.Ended) ⊎ (result ≡ SessionEnd.CutShort) → NothingLeft (S.left source.new) }
     ensures read_fault { result ≡ SessionEnd.ReadFault → S.faults source.old < S.faults source.new }
     ensures write_fault { result ≡ SessionEnd.WriteFault → K.faults sink.old < K.faults sink.new }
+    ensures unfailed_read { result ≢ SessionEnd.ReadFault → S.faults source.new ≡ S.faults source.old }
+    ensures unfailed_write { result ≢ SessionEnd.WriteFault → K.faults sink.new ≡ K.faults sink.old }
 {
     let mut decoder = Decoder::new(alloc);
     let mut taken: u64 = 0;
@@ -114,19 +119,23 @@ fn make_room(alloc: Global, size: usize) -> Result<Vec<u8>, NoMemory>
     vec![in alloc; 0u8; size]
 }
 
-/// Serves one connection by this handler, which stands before its first change. Each message is answered, and its reply written whole,
-/// before the next one is looked at. Reads take at most 16,384 bytes.
+/// Serves one connection by this handler, from wherever it is in its own history to where the connection leaves it. The first failed
+/// read or write ends the connection.
+///
+/// No clause says when it reads: it reads no more before each message that it has whole is answered, the replies written whole and in
+/// order, and at most 16,384 bytes at once.
 pub fn serve_by<H: Handler, S: Source, K: Sink>(
     alloc: Global,
     handler: &mut H,
     source: &mut S,
     sink: &mut K,
 ) -> SessionEnd
-    ensures session { (g : Lcg) → H.after handler.old [] g → (input : Bytes) × (output : Bytes) × (S.left source.old ≡ in_front input (S.left source.new))
-        × Adds (K.written sink.old) output (K.written sink.new) × EndsWith result g input output }
+    ensures session { (start : Point) → H.after handler.old start.history start.generator → IsOwn start.history
+        → (input : Bytes) × (output : Bytes) × (S.left source.old ≡ in_front input (S.left source.new))
+        × Adds (K.written sink.old) output (K.written sink.new) × EndsAt (H.after handler.new) result start input output }
     ensures end { (result ≡ SessionEnd.Ended) ⊎ (result ≡ SessionEnd.CutShort) → NothingLeft (S.left source.new) }
-    ensures read_fault { result ≡ SessionEnd.ReadFault → S.faults source.old < S.faults source.new }
-    ensures write_fault { result ≡ SessionEnd.WriteFault → K.faults sink.old < K.faults sink.new }
+    ensures read_fault { (result ≡ SessionEnd.ReadFault) ↔ (S.faults source.old < S.faults source.new) }
+    ensures write_fault { (result ≡ SessionEnd.WriteFault) ↔ (K.faults sink.old < K.faults sink.new) }
 {
     match make_room(alloc, 16_384) {
         Ok(mut room) => serve_with(alloc, handler, &mut room, source, sink),

@@ -1,7 +1,8 @@
 //! Connections over a handler that knows PING and QUIT alone, and finds no memory for anything else.
 
-ghost use Rattle.std.specs.Prelude.{◌≡◌, ◌≤◌, ◌∷◌, [], true};
-ghost use Rattle.vs_defs.specs.PlainMachine.{PlainHistory};
+ghost use Rattle.std.specs.Prelude.{◌≡◌, ◌≤◌, ◌∷◌, [], true, false};
+ghost use Rattle.std.specs.Str.{str_to_ascii_lowercase};
+ghost use Rattle.vs_defs.specs.Bytes.{Bytes, is_word};
 
 use crate::write::write_all;
 use crate::{Handler, Replied, SessionEnd, serve_by};
@@ -12,11 +13,21 @@ use vs_resp::Fault;
 #[derive(Drop)]
 struct Answering;
 
+// In any case of ASCII letters; the name is in small ones.
+fn is_name(name: &[u8], word: &Text) -> bool
+    requires { str_to_ascii_lowercase name.now ≡ name.now }
+    ensures { result ≡ is_word name.now word.now }
+{
+    name.eq_ignore_ascii_case(word.as_slice())
+}
+
 fn is_only(message: &[Text], name: &[u8]) -> bool
-    ensures { result ≡ true → message.now ≡ name.now ∷ [] }
+    requires { str_to_ascii_lowercase name.now ≡ name.now }
+    ensures yes { result ≡ true → (w : Bytes) × (message.now ≡ w ∷ []) × (is_word name.now w ≡ true) }
+    ensures no { result ≡ false → (w : Bytes) → message.now ≡ w ∷ [] → is_word name.now w ≡ false }
 {
     match message {
-        [word] => word.as_slice() == name,
+        [word] => is_name(name, word),
         _ => false,
     }
 }
@@ -25,13 +36,13 @@ impl Handler for Answering {
     ghost after = { λ s h g. Unit {0} };
 
     fn handle<K: Sink>(&mut self, message: &[Text], sink: &mut K) -> Replied {
-        if is_only(message, b"PING") {
+        if is_only(message, b"ping") {
             if write_all(sink, b"+PONG\r\n") {
                 return Replied::Whole;
             }
             return Replied::Failed;
         }
-        if is_only(message, b"QUIT") {
+        if is_only(message, b"quit") {
             if write_all(sink, b"+OK\r\n") {
                 return Replied::Bye;
             }

@@ -1,6 +1,5 @@
 //! A piece, written whole.
-ghost use Rattle.std.specs.Prelude.{◌≡◌, ◌<◌, ◌≤◌, ◌↔◌, List, [], ◌++◌, ℕ, IsTrue, false};
-ghost use Rattle.vs_outside.specs.Known.{Adds};
+ghost use Rattle.std.specs.Prelude.{◌≡◌, ◌<◌, true, false};
 ghost use Rattle.vs_connection.specs.Written.{WrittenOf};
 
 use vs_outside::{Put, Sink};
@@ -8,15 +7,15 @@ use vs_outside::{Put, Sink};
 /// Writes a piece whole, unless a write fails.
 pub fn write_all<K: Sink>(sink: &mut K, piece: &[u8]) -> bool
     ensures written { WrittenOf (K.written sink.old) piece.now result (K.written sink.new) }
-    ensures faults { K.faults sink.old ≤ K.faults sink.new }
     ensures failed { result ≡ false → K.faults sink.old < K.faults sink.new }
+    ensures unfailed { result ≡ true → K.faults sink.new ≡ K.faults sink.old }
 {
     let mut rest = piece;
     while !rest.is_empty() {
         match sink.write(rest) {
             Put::Bytes(n) => {
-                let (_, behind) = rest.split_at(n);
-                rest = behind;
+                let (_, left) = rest.split_at(n);
+                rest = left;
             }
             Put::Failed => return false,
         }

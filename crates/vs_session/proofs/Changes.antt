@@ -6,7 +6,7 @@ use Rattle.vs_defs.specs.Reply.{reply}
 use Rattle.vs_defs.specs.Request as request
 use Rattle.vs_defs.specs.Store.{PlainStore, Contents, Member, set_of, member_of}
 use Rattle.vs_defs.specs.PlainStep.{changed, added, added_to, number_of_change}
-use Rattle.vs_defs.specs.PlainMachine.{PlainDoes}
+use Rattle.vs_defs.specs.PlainMachine.{PlainDoes, PlainChanges}
 use Rattle.vs_command.specs.declared.answer.Answer.{Answer}
 use Rattle.vs_command.specs.declared.answer.Answer.TheVariants.{Int, Pong, Bye, Bulk, NullText, NullList, Names, Signs, Hits, Layers, Info as Informed}
 use Rattle.vs_command.specs.declared.refusal.Refusal.{Refusal}
@@ -57,12 +57,15 @@ long_is_none (Hits dim scores attrs hits) e (n, is) = absurd (cc)
 long_is_none (Layers dim scores layers) e (n, is) = absurd (cc)
 long_is_none (Informed info) e (n, is) = absurd (cc)
 
--- so want of memory may come in its place
+pub number_is_short : (old : PlainStore) (r : request.Request) (words : List ℕ) (new : PlainStore) (a : Answer) → PlainChanges old r words (answer_of a) new → short_of (Ok a) ≡ None → ⊥
+number_is_short old r words new a c long =
+    let n : IsNumber (changed old r words).1 = changed_number old r words in
+    long_is_none a long (n.0, c.step.answers ∙ n.1)
+
+-- so an answer that memory is refused for may be replaced
 pub long_changes_nothing : (old new : PlainStore) (r : request.Request) (words : List ℕ) (result : Result Answer Refusal) →
     PlainDoes old r words (outcome_of result) new → short_of result ≡ None → new ≡ old
-long_changes_nothing old new r words (Ok a) (inl c) long =
-    let n : IsNumber (changed old r words).1 = changed_number old r words in
-    absurd (long_is_none a long (n.0, c.step.answers ∙ n.1))
+long_changes_nothing old new r words (Ok a) (inl c) long = absurd (number_is_short old r words new a c long)
 long_changes_nothing old new r words (Ok a) (inr (same, answers)) long = same
 long_changes_nothing old new r words (Err e) does long = absurd (cc)
 

@@ -1,5 +1,5 @@
 //! A connection alone, over a store of its own.
-ghost use Rattle.std.specs.Prelude.{◌≡◌, ◌<◌, ◌⊎◌};
+ghost use Rattle.std.specs.Prelude.{◌≡◌, ◌<◌, ◌⊎◌, ◌↔◌};
 ghost use Rattle.vs_defs.specs.Bytes.{Bytes};
 ghost use Rattle.vs_session_defs.specs.Words.{generator as generator_of};
 ghost use Rattle.vs_outside.specs.Known.{Adds, in_front, NothingLeft};
@@ -21,7 +21,9 @@ impl Machine for Store {
 }
 
 /// Serves one connection by a fresh store of the usual limits. The drawn words are those of the stream 0 of the seed.
-/// Each message is answered, and its reply written whole, before the next one is looked at.
+/// The first failed read or write ends the connection.
+///
+/// As of `serve_by`, no clause says when it reads: each message is answered, and its reply written whole, before it reads or answers more.
 pub fn serve_alone<S: Source, K: Sink>(
     alloc: Global,
     seed: u64,
@@ -31,8 +33,8 @@ pub fn serve_alone<S: Source, K: Sink>(
     ensures session { (input : Bytes) × (output : Bytes) × (S.left source.old ≡ in_front input (S.left source.new))
         × Adds (K.written sink.old) output (K.written sink.new) × EndsWith result (generator_of seed 0) input output }
     ensures end { (result ≡ SessionEnd.Ended) ⊎ (result ≡ SessionEnd.CutShort) → NothingLeft (S.left source.new) }
-    ensures read_fault { result ≡ SessionEnd.ReadFault → S.faults source.old < S.faults source.new }
-    ensures write_fault { result ≡ SessionEnd.WriteFault → K.faults sink.old < K.faults sink.new }
+    ensures read_fault { (result ≡ SessionEnd.ReadFault) ↔ (S.faults source.old < S.faults source.new) }
+    ensures write_fault { (result ≡ SessionEnd.WriteFault) ↔ (K.faults sink.old < K.faults sink.new) }
 {
     let store = Store::new(alloc, Limits::usual());
     let mut server = Server::new(alloc, store, generator(seed, 0));

@@ -1,5 +1,5 @@
 //! What carries requests out.
-ghost use Rattle.std.specs.Prelude.{◌≡◌, true, length, IfOk};
+ghost use Rattle.std.specs.Prelude.{◌≡◌, ◌≢◌, true, length, Err, IfOk};
 ghost use Rattle.vs_defs.specs.Read.{draws as draws_of};
 ghost use Rattle.vs_defs.specs.Bounds.{IsInBounds};
 ghost use Rattle.vs_defs.specs.PlainMachine.{PlainDoes};
@@ -8,6 +8,7 @@ ghost use Rattle.vs_defs.specs.Store.{PlainStore};
 ghost use Rattle.vs_command.specs.Outcomes.{outcome_of};
 ghost use Rattle.vs_command.specs.Requests.{request_of};
 ghost use Rattle.vs_command.specs.Scores.{HasScores};
+ghost use Rattle.vs_plain_store.specs.Memory.{takes_no_memory};
 
 use vs_command::{Answer, Refusal, Request};
 
@@ -15,12 +16,13 @@ use vs_command::{Answer, Refusal, Request};
 pub trait Machine {
     ghost store: { Self → PlainStore };
 
-    /// Carries a request out at once. `words` are the drawn ones, as many as the request takes. A refusal, want of memory
-    /// included, leaves the store as it was.
+    /// Carries a request out at once. `words` are the drawn ones, as many as the request takes. A refusal, that of memory included,
+    /// leaves the store as it was.
     fn do_now(&mut self, request: Request, words: &[u32]) -> Result<Answer, Refusal>
         requires bounds { IsInBounds (request_of request) }
         requires words { length words.now ≡ draws_of (request_of request) }
         requires plain { is_plain (request_of request) ≡ true }
         ensures does { PlainDoes (store self.old) (request_of request) words.now (outcome_of result) (store self.new) }
-        ensures scores { IfOk result HasScores };
+        ensures scores { IfOk result HasScores }
+        ensures memory { takes_no_memory (request_of request) ≡ true → result ≢ Err Refusal.NoMemory };
 }

@@ -1,5 +1,5 @@
 //! The handler of a connection's messages: words in, one reply out.
-ghost use Rattle.std.specs.Prelude.{◌≡◌, ◌<◌, ◌≤◌, ◌⊎◌, None, Ok, false, All, length, IfOk};
+ghost use Rattle.std.specs.Prelude.{◌≡◌, ◌≢◌, ◌<◌, ◌≤◌, ◌⊎◌, None, Ok, false, All, length, IfOk};
 ghost use Rattle.rand_pcg.specs.Lcg.{Lcg};
 ghost use Rattle.vs_defs.specs.PlainMachine.{PlainHistory};
 ghost use Rattle.vs_defs.specs.Reply.{Outcome, reply};
@@ -71,8 +71,8 @@ fn is_quit(outcome: &Result<Answer, Refusal>) -> bool
 // Writes a reply whole, unless the sink fails.
 fn write_line<K: Sink>(line: &[u8], bye: bool, sink: &mut K) -> Replied
     ensures replied { (o : Outcome) → reply o ≡ line.now → is_bye o ≡ bye → IsReplied result (K.written sink.old) (K.written sink.new) o }
-    ensures faults { K.faults sink.old ≤ K.faults sink.new }
     ensures failed { result ≡ Replied.Failed → K.faults sink.old < K.faults sink.new }
+    ensures unfailed { result ≢ Replied.Failed → K.faults sink.new ≡ K.faults sink.old }
 {
     if !write_all(sink, line) {
         return Replied::Failed;
@@ -83,8 +83,8 @@ fn write_line<K: Sink>(line: &[u8], bye: bool, sink: &mut K) -> Replied
 // Tells that there is no memory for a reply.
 fn write_want_of_memory<K: Sink>(sink: &mut K) -> Replied
     ensures replied { IsReplied result (K.written sink.old) (K.written sink.new) outcome.OutOfMemory }
-    ensures faults { K.faults sink.old ≤ K.faults sink.new }
     ensures failed { result ≡ Replied.Failed → K.faults sink.old < K.faults sink.new }
+    ensures unfailed { result ≢ Replied.Failed → K.faults sink.new ≡ K.faults sink.old }
 {
     match short_reply(&Err(Refusal::NoMemory)) {
         Some(line) => write_line(line.as_slice(), false, sink),
@@ -98,8 +98,8 @@ fn write_answer<K: Sink>(buffer: &mut Text, answer: &Answer, sink: &mut K) -> Re
     requires long { short_of (Ok answer.now) ≡ None }
     ensures replied { IsReplied result (K.written sink.old) (K.written sink.new) (outcome.Answered (answer_of answer.now))
         ⊎ IsReplied result (K.written sink.old) (K.written sink.new) outcome.OutOfMemory }
-    ensures faults { K.faults sink.old ≤ K.faults sink.new }
     ensures failed { result ≡ Replied.Failed → K.faults sink.old < K.faults sink.new }
+    ensures unfailed { result ≢ Replied.Failed → K.faults sink.new ≡ K.faults sink.old }
 {
     buffer.clear();
     match reply_into(buffer, answer, Proto::Two) {

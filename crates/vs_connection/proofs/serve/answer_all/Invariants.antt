@@ -6,19 +6,20 @@ use Rattle.vs_defs.specs.Reply.{Outcome}
 use Rattle.vs_defs.specs.PlainMachine.{PlainHistory}
 use Rattle.vs_outside.specs.Known.{Adds}
 use Rattle.vs_resp.specs.Stands.{failure, bytes_taken, ready_count}
+use Rattle.vs_connection.specs.Point.{Point}
 use Rattle.vs_connection.specs.SoFar.{SoFar, HasGiven}
 use Rattle.vs_connection.proofs.Sessions.{AnsweredSome}
 use Rattle.vs_connection.proofs.serve.answer_all.Given as goal
 
 abbrev pub invariant-loop-message : goal.invariant-loop-message
 invariant-loop-message g l = record {
-  session : (start : Lcg) (input : Bytes) (given : List Message) (outcomes : List Outcome) (output : Bytes) (h : PlainHistory) (i : Lcg) →
+  session : (start : Point) (input : Bytes) (given : List Message) (outcomes : List Outcome) (output : Bytes) (h : PlainHistory) (i : Lcg) →
       SoFar l.fn.decoder (g.H.Handler.after l.fn.handler) start input given outcomes output h i →
       (more : Bytes) × Adds (g.K.Sink.written l.fn.sink) more (g.K.Sink.written l.sink) × AnsweredSome l.decoder (g.H.Handler.after l.handler) start input (output ++ more);
   given : HasGiven l.decoder;
   failure : failure l.decoder ≡ failure l.fn.decoder;
   taken : bytes_taken l.decoder ≡ bytes_taken l.fn.decoder;
-  faults : g.K.Sink.faults l.fn.sink ≤ g.K.Sink.faults l.sink;
+  faults : g.K.Sink.faults l.sink ≡ g.K.Sink.faults l.fn.sink;
 }
 
 abbrev pub decreases-loop-message : goal.decreases-loop-message

@@ -1,24 +1,25 @@
 use Rattle.std.proofs.Common.{◌≡◌, ◌≤◌, ◌<◌, ◌+◌, ◌-◌, ◌^◌, List, [], None, length}
 use Rattle.vs_defs.specs.Bytes.{Bytes}
-use Rattle.rand_pcg.specs.Lcg.{Lcg}
 use Rattle.vs_defs.specs.Stream.{Message}
 use Rattle.vs_outside.specs.Known.{Adds, in_front}
 use Rattle.vs_resp.specs.Stands.{bytes_taken, failure, Stands}
+use Rattle.vs_connection.specs.Own.{IsOwn}
+use Rattle.vs_connection.specs.Point.{Point}
 use Rattle.vs_connection.specs.SoFar.{Going}
 use Rattle.vs_connection.proofs.serve.serve_with.Given as goal
 
 abbrev pub invariant-loop-taken : goal.invariant-loop-taken
 invariant-loop-taken g l = record {
-  session : (first : Lcg) → g.H.Handler.after l.fn.handler [] first → (input : Bytes) × (output : Bytes) × (g.S.Source.left l.fn.source ≡ in_front input (g.S.Source.left l.source))
-      × Adds (g.K.Sink.written l.fn.sink) output (g.K.Sink.written l.sink) × Going l.decoder (g.H.Handler.after l.handler) first input output × (length input ≡ l.taken);
+  session : (start : Point) → g.H.Handler.after l.fn.handler start.history start.generator → IsOwn start.history → (input : Bytes) × (output : Bytes) × (g.S.Source.left l.fn.source ≡ in_front input (g.S.Source.left l.source))
+      × Adds (g.K.Sink.written l.fn.sink) output (g.K.Sink.written l.sink) × Going l.decoder (g.H.Handler.after l.handler) start input output × (length input ≡ l.taken);
   begun : (input : Bytes) × (given : List Message) × Stands l.decoder input given;
   going : failure l.decoder ≡ None;
   some : 0 < length l.buffer;
   few : length l.buffer < 65536;
   fed : bytes_taken l.decoder ≤ l.taken;
   bound : l.taken ≤ 2 ^ 62 + 65536;
-  source_faults : g.S.Source.faults l.fn.source ≤ g.S.Source.faults l.source;
-  sink_faults : g.K.Sink.faults l.fn.sink ≤ g.K.Sink.faults l.sink;
+  source_faults : g.S.Source.faults l.source ≡ g.S.Source.faults l.fn.source;
+  sink_faults : g.K.Sink.faults l.sink ≡ g.K.Sink.faults l.fn.sink;
 }
 
 abbrev pub decreases-loop-taken : goal.decreases-loop-taken

@@ -14,5 +14,5 @@ loop-rest-preserved g c =
         w.1 ∙ ap (λ (l : List ℕ). w.0 ++ l) (sym (take-append-drop n r)) ∙ sym (append_assoc w.0 (take n r) (drop n r)) ∙ ap (λ (l : List ℕ). (w.0 ++ take n r) ++ l) (sym c.split_at.ensures.back),
         Adds-trans _ _ _ w.0 (take n r) w.2 c.in-Bytes.ensures.put.2,
       );
-      faults = omega arith;
+      faults = c.in-Bytes.ensures.unfailed (λ e. cc) ∙ c.loop-rest.invariant.faults;
     }
