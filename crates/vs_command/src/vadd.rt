@@ -13,7 +13,7 @@ use crate::Refusal;
 use crate::limits::{MAX_M, MIN_M};
 use crate::vector::read_vector;
 use crate::word::{
-    is_word, number_within, read_attribute, read_ef, read_key, read_name, value, word,
+    checked_key, checked_name, is_word, number_within, read_attribute, read_ef, value, word,
 };
 use std::alloc::Global;
 use vs_bits::Add;
@@ -147,26 +147,26 @@ fn read_add_form(form: &Text) -> Result<(), Refusal>
     }
 }
 
-/// Reads a VADD.
+/// Reads a VADD. The key, the name and the attribute are copied once nothing is left to refuse.
 pub(crate) fn read_vadd(alloc: Global, words: &[Text]) -> Result<Add, Refusal>
     requires arity { 5 ≤ length words.now }
     requires short { AreShort words.now }
     ensures add { Gives (λ add. request.Vadd (add_of add)) result (vadd_in words.now) }
     ensures bounds { IfOk result (λ add. IsAddInBounds (add_of add)) }
 {
-    let key = read_key(word(words, 1))?;
+    let key = checked_key(word(words, 1))?;
     read_add_form(word(words, 2))?;
     let bits = read_vector(alloc, 1, words)?;
     let name_at = 4 + bits.dim() as usize;
-    let name = read_name(word(words, name_at))?;
+    let name = checked_name(word(words, name_at))?;
     let options = read_add_options(name_at + 1, words)?;
     let attr = match options.attr {
         None => None,
         Some(text) => Some(text.try_clone()?),
     };
     Ok(Add {
-        key,
-        name,
+        key: key.try_clone()?,
+        name: name.try_clone()?,
         bits,
         cas: options.cas,
         ef: options.ef,

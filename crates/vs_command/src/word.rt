@@ -33,18 +33,41 @@ pub(crate) fn is_word(name: &[u8], word: &Text) -> bool
     name.eq_ignore_ascii_case(word.as_slice())
 }
 
-/// A copy of a key.
-pub(crate) fn read_key(word: &Text) -> Result<Text, Refusal>
+/// A key, where its length is in bounds.
+pub(crate) fn checked_key(word: &Text) -> Result<&Text, Refusal>
     requires { length word.now < 2 ^ 32 }
-    ensures key { Gives (λ key. key) result (key_in word.now) }
-    ensures bounds { IfOk result IsNameInBounds }
+    ensures key { Gives (λ key. key.now) result (key_in word.now) }
+    ensures bounds { IfOk result (λ key. IsNameInBounds key.now) }
 {
     if word.len() < 1 || MAX_NAME_BYTES < word.len() {
         return Err(Refusal::BadKey {
             len: word.len() as u32,
         });
     }
-    Ok(word.try_clone()?)
+    Ok(word)
+}
+
+/// A copy of a key.
+pub(crate) fn read_key(word: &Text) -> Result<Text, Refusal>
+    requires { length word.now < 2 ^ 32 }
+    ensures key { Gives (λ key. key) result (key_in word.now) }
+    ensures bounds { IfOk result IsNameInBounds }
+{
+    Ok(checked_key(word)?.try_clone()?)
+}
+
+/// A member's name, where its length is in bounds.
+pub(crate) fn checked_name(word: &Text) -> Result<&Text, Refusal>
+    requires { length word.now < 2 ^ 32 }
+    ensures name { Gives (λ name. name.now) result (name_in word.now) }
+    ensures bounds { IfOk result (λ name. IsNameInBounds name.now) }
+{
+    if word.len() < 1 || MAX_NAME_BYTES < word.len() {
+        return Err(Refusal::BadName {
+            len: word.len() as u32,
+        });
+    }
+    Ok(word)
 }
 
 /// A copy of a member's name.
@@ -53,12 +76,7 @@ pub(crate) fn read_name(word: &Text) -> Result<Text, Refusal>
     ensures name { Gives (λ name. name) result (name_in word.now) }
     ensures bounds { IfOk result IsNameInBounds }
 {
-    if word.len() < 1 || MAX_NAME_BYTES < word.len() {
-        return Err(Refusal::BadName {
-            len: word.len() as u32,
-        });
-    }
-    Ok(word.try_clone()?)
+    Ok(checked_name(word)?.try_clone()?)
 }
 
 /// The text of an attribute, where it is short enough.

@@ -152,3 +152,16 @@ all_worded (m ∷ ms) = keep_worded m (with_words ms) (has_word m) refl (all_wor
 
 pub given_some : (input : Bytes) (given : List Message) (m : Message) → GivenFirst true input (given ++ m ∷ []) → 0 < length m
 given_some input given m f = in_given (λ (x : Message). 0 < length x) input given m (λ ms e s. all_worded ms) f
+
+-- a decoder in another's place, which has the same history
+pub same_so_far : (d e : Decoder) (now : PlainHistory → Lcg → Type 0) (start : Point) (input : Bytes) (given : List Message) (outcomes : List Outcome) (output : Bytes) (h : PlainHistory) (g : Lcg) →
+    ((fed : Bytes) (ms : List Message) → Stands d fed ms → Stands e fed ms) → SoFar d now start input given outcomes output h g → SoFar e now start input given outcomes output h g
+same_so_far d e now start input given outcomes output h g same s = record {
+  stands = same input given s.stands;
+  serves = s.serves;
+  pings = s.pings;
+  going = s.going;
+  written = s.written;
+  now_is = s.now_is;
+  own = s.own;
+}

@@ -21,7 +21,7 @@ use vs_outside::{NoMemory, Sink, Source, Took};
 use vs_reply::fault_line;
 use vs_resp::{Decoder, Fault, FeedError};
 
-// Answers each message that is ready, until a QUIT or a failed write.
+// Answers each message that is ready, until a QUIT or a failed write. The decoder uses the memory of an answered message again.
 fn answer_all<H: Handler, K: Sink>(
     decoder: &mut Decoder,
     handler: &mut H,
@@ -40,7 +40,7 @@ fn answer_all<H: Handler, K: Sink>(
 {
     while let Some(message) = decoder.next() {
         match handler.handle(message.as_slice(), sink) {
-            Replied::Whole => {}
+            Replied::Whole => decoder.take_back(message),
             Replied::Bye => return Some(SessionEnd::Quit),
             Replied::Failed => return Some(SessionEnd::WriteFault),
         }

@@ -12,7 +12,7 @@ use Rattle.vs_connection.specs.declared.end.SessionEnd.TheVariants.{Quit, WriteF
 use Rattle.vs_connection.specs.Stage.{ServesOne}
 use Rattle.vs_connection.specs.Connection.{EndsAt}
 use Rattle.vs_connection.specs.SoFar.{SoFar}
-use Rattle.vs_connection.proofs.Sessions.{Next, one_more, to_quit, loses, given_few, given_some}
+use Rattle.vs_connection.proofs.Sessions.{Next, same_so_far, one_more, to_quit, loses, given_few, given_some}
 use Rattle.vs_connection.proofs.serve.answer_all.Goals as goal
 
 pub handle-requires : goal.handle-requires
@@ -92,13 +92,14 @@ loop-message-preserved g c = record {
           i.2.1 ++ o ∷ [],
           t,
           k,
-          subst (λ (l : Bytes). SoFar c.next.new.self (g.H.Handler.after c.handle.new.self) start input (i.2.0 ++ m ∷ []) (i.2.1 ++ o ∷ []) l t k) (append_assoc output i.0 (reply o))
-              (one_more c.loop-message.decoder (g.H.Handler.after c.loop-message.handler) (g.H.Handler.after c.handle.new.self) start input i.2.0 i.2.1 (output ++ i.0) i.2.2 i.2.3 c.next.new.self m o t k n served.now_is served.own served.is_replied.0),
+          same_so_far c.next.new.self c.take_back.new.self (g.H.Handler.after c.handle.new.self) start input (i.2.0 ++ m ∷ []) (i.2.1 ++ o ∷ []) (output ++ (i.0 ++ reply o)) t k c.take_back.ensures.stands
+              (subst (λ (l : Bytes). SoFar c.next.new.self (g.H.Handler.after c.handle.new.self) start input (i.2.0 ++ m ∷ []) (i.2.1 ++ o ∷ []) l t k) (append_assoc output i.0 (reply o))
+              (one_more c.loop-message.decoder (g.H.Handler.after c.loop-message.handler) (g.H.Handler.after c.handle.new.self) start input i.2.0 i.2.1 (output ++ i.0) i.2.2 i.2.3 c.next.new.self m o t k n served.now_is served.own served.is_replied.0)),
         ),
       );
-  given = let given = c.loop-message.invariant.given in (given.0, given.1 ++ c.in-Some.message ∷ [], c.in-Some.ensures.stands given.0 given.1 given.2);
-  failure = c.in-Some.ensures.failure ∙ c.loop-message.invariant.failure;
-  taken = c.in-Some.ensures.taken ∙ c.loop-message.invariant.taken;
+  given = let given = c.loop-message.invariant.given in (given.0, given.1 ++ c.in-Some.message ∷ [], c.take_back.ensures.stands given.0 (given.1 ++ c.in-Some.message ∷ []) (c.in-Some.ensures.stands given.0 given.1 given.2));
+  failure = c.take_back.ensures.failure ∙ c.in-Some.ensures.failure ∙ c.loop-message.invariant.failure;
+  taken = c.take_back.ensures.taken ∙ c.in-Some.ensures.taken ∙ c.loop-message.invariant.taken;
   faults = c.in-Whole.ensures.unfailed (λ e. cc) ∙ c.loop-message.invariant.faults;
 }
 
