@@ -4,6 +4,7 @@
 
 mod name;
 mod seat;
+mod steps;
 mod view;
 
 pub use name::{HistoryLimits, TableName};
