@@ -1,3 +1,3 @@
 pub mod Beginnings
 pub mod Histories
-pub mod Steps
+pub mod RuleKept

@@ -2,9 +2,13 @@
 //! has seen a beginning of it.
 #![tactic(auto)]
 
+mod hold;
 mod name;
 mod seat;
+mod steps;
 mod view;
 
+pub use hold::{enter, leave, meet};
 pub use name::{HistoryLimits, TableName};
 pub use seat::{Opened, Seat, Word};
+pub use steps::{end, make};

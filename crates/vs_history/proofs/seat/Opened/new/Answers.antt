@@ -1,5 +1,5 @@
 use Rattle.vs_thread_defs.specs.Machine.{Follows}
-use Rattle.vs_history.proofs.Steps.{begins}
+use Rattle.vs_history.proofs.RuleKept.{begins}
 use Rattle.vs_history.proofs.seat.Opened.new.Goals as goal
 
 pub of_words-requires : goal.of_words-requires
