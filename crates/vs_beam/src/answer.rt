@@ -1,3 +1,4 @@
+//! What a search of one layer answers: the record of the lists that its contract speaks of.
 use vs_outside::List;
 use vs_rank::Key;
 

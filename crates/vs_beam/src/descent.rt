@@ -1,3 +1,5 @@
+//! Greedy descent through the layers, after the HNSW paper. It keeps that each stop is in its layer and has no strictly nearer neighbour
+//! there, that each step goes to a strictly nearer one, and a bound on the nodes that are read. It takes no memory.
 ghost use Rattle.std.specs.Prelude.{◌≡◌, ◌+◌, ◌*◌, ◌/◌, ◌<◌, ◌≤◌, ℕ, None, Some, length, IsSome, IfSome, IfNone, IsSomeAnd};
 ghost use Rattle.vs_defs.specs.Words.{FitsDimension};
 ghost use Rattle.vs_defs.specs.Counts.{descend_reads};

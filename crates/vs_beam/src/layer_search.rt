@@ -1,3 +1,4 @@
+//! The public call of a search of one layer: it empties the slot, runs the search and hands out its lists.
 ghost use Rattle.std.specs.Prelude.{◌+◌, ◌<◌, ◌≤◌, ◌↔◌, Bool, IfOk, IsTrue};
 ghost use Rattle.vs_defs.specs.Words.{FitsDimension};
 ghost use Rattle.vs_graph.specs.Good.{StandsAt};

@@ -1,3 +1,4 @@
+//! What is read of a member that is tried: its key and whether it passes, for one read of its node.
 ghost use Rattle.std.specs.Prelude.{◌≡◌, ◌+◌, ◌≤◌, Bool, length};
 ghost use Rattle.vs_rank.specs.Tests.{Attribute, Answers};
 ghost use Rattle.vs_beam.specs.Beam.{HasWords, key_at, attr_at};

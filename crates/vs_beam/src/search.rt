@@ -1,3 +1,6 @@
+//! The loop of a search of one layer. What it keeps: the tried members are distinct, were reached by links from the start, and are marked
+//! in the slot; each tried one is expanded, in the frontier or beyond the worst of a full list of the best; the best are the nearest tried ones
+//! that pass. It expands the nearest one first and stops where that one is beyond.
 use crate::looking::look;
 use crate::steps_nearer::links;
 use std::alloc::Global;

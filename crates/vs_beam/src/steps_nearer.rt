@@ -1,3 +1,4 @@
+//! The walk of a descent within one layer: from neighbour to strictly nearer neighbour until none is nearer.
 ghost use Rattle.std.specs.Prelude.{◌≡◌, ◌+◌, ◌*◌, ◌≤◌, ◌<◌, ℕ, [], length, IfSome, IfNone};
 ghost use Rattle.vs_graph.specs.Good.{IsLinked, links_at};
 ghost use Rattle.vs_beam.specs.Beam.{far_at, HasWords, IsNearestAround, Walks, IsNearer};

@@ -48,7 +48,14 @@ impl Filter {
         let tokens = tokens_of(alloc, text)?;
         let turns = 8 * tokens.len() as u32 + 8;
         let mut code = List::new(alloc);
-        let rest = expr_within(alloc, turns, Rule::Or, MAX_FILTER_DEPTH, tokens.as_slice(), &mut code)?;
+        let rest = expr_within(
+            alloc,
+            turns,
+            Rule::Or,
+            MAX_FILTER_DEPTH,
+            tokens.as_slice(),
+            &mut code,
+        )?;
         if !is_end(rest) {
             return Err(syntax_at(rest));
         }

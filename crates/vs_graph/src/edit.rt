@@ -1,3 +1,5 @@
+//! Changed nodes over a base. An edit never looks at its base by itself: its meaning is the base with the changed ids overwritten, and a
+//! refused change leaves it as it was.
 ghost use Rattle.std.specs.Prelude.{◌≡◌, ◌<◌, ℕ, length, IsSome, IfSome, IfNone};
 ghost use Rattle.vs_graph.specs.Said.{said, IsLastAt, IsNowhere};
 

@@ -1,3 +1,4 @@
+//! A shared value that contracts see as the value: std's `Arc` compares by its pointer there.
 ghost use Rattle.std.specs.Prelude.{◌≡◌, IfOk};
 
 use std::alloc::Global;

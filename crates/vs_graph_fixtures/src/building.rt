@@ -1,3 +1,4 @@
+//! Members of small graphs, put in and linked one by one.
 ghost use Rattle.std.specs.Prelude.{◌≡◌, ◌<◌, ◌^◌, ℕ, Some, IfOk, IsSome, IsSomeAnd, unwrap_or, OnOk};
 ghost use Rattle.vs_defs.specs.Words.{FitsDimension};
 ghost use Rattle.vs_graph.specs.Edits.{changed, overwritten};

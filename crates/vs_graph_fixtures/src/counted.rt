@@ -1,3 +1,4 @@
+//! Nodes that count their own look-ups, to compare with what is told to the counter that is handed in.
 use std::alloc::Global;
 use std::cell::Cell;
 use std::sync::ledger::Ledger;

@@ -1,3 +1,4 @@
+//! Names and places of test graphs, picked from numbers.
 ghost use Rattle.std.specs.Prelude.{◌≡◌, ◌≢◌, ◌<◌, ◌≤◌, ℕ, false, true, IsTrue, IsSome, IfSome, IfOk, Contains, length, nat_eq};
 ghost use Rattle.std.specs.List.{list_any};
 ghost use Rattle.vs_graph.specs.Edits.{overwritten};

@@ -1,3 +1,4 @@
+//! Searches over test graphs, with every member or every second one passing.
 ghost use Rattle.std.specs.Prelude.{◌≡◌, ◌<◌, IfOk};
 ghost use mathlib.Core.HProp.{IsProp-prop};
 ghost use Rattle.std.specs.Option.{option_copied};

@@ -1,3 +1,4 @@
+//! Descents and beams over a graph of test members, compared with plain searches.
 ghost use Rattle.std.specs.Prelude.{◌≡◌, ◌<◌};
 
 use super::*;

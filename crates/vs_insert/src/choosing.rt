@@ -1,3 +1,4 @@
+//! The lists of those whom a new member is to be joined to: a descent, then a beam and a choice at each layer from the top down.
 ghost use Rattle.std.specs.Prelude.{◌≡◌, ◌<◌, ◌≤◌, ◌+◌, ◌-◌, ◌++◌, ℕ, Some, IsSome, IfOk, All, length, replicate, [], option_map, slice_get};
 ghost use Rattle.vs_defs.specs.Words.{FitsDimension};
 ghost use Rattle.vs_graph.specs.Good.{body_at, StandsAt, IsGood};

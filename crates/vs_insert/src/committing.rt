@@ -1,3 +1,4 @@
+//! A draft put into a graph that may have changed since: the member gets the draft's lists, by a bounded number of reads and no search.
 ghost use Rattle.std.specs.Prelude.{◌≡◌, ◌≢◌, ◌<◌, ◌≤◌, ◌+◌, ◌^◌, ℕ, List as Items, None, OnOk, OnErr, IfOk, IfSome, length, option_map};
 ghost use Rattle.vs_defs.specs.Words.{FitsDimension};
 ghost use Rattle.vs_defs.specs.Counts.{commit_reads};

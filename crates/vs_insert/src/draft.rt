@@ -1,3 +1,4 @@
+//! What is prepared without the graph's owner: the chosen lists by layer, each member with its name and words.
 use vs_graph::InlineBody;
 use vs_outside::List;
 

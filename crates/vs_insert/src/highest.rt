@@ -1,3 +1,4 @@
+//! The member of greatest level, of equal levels the one of least name, with one left out.
 ghost use Rattle.std.specs.Prelude.{◌≡◌, ◌≢◌, ◌+◌, ℕ, List as Items, IfSome, IsSome, option_map};
 ghost use Rattle.std.specs.Ordering.{is_lt};
 ghost use Rattle.vs_defs.specs.Removal.{highest};
@@ -14,9 +15,7 @@ use vs_graph::{Edit, Node, Nodes, Steps, live_node};
 fn is_higher(one: &Node, other: &Node) -> bool
     ensures { result ≡ is_lt (height one.now other.now) }
 {
-    let names = one
-        .body.name()
-        .cmp(other.body.name());
+    let names = one.body.name().cmp(other.body.name());
     other.level.cmp(&one.level).then(names).is_lt()
 }
 

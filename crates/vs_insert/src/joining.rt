@@ -1,3 +1,4 @@
+//! A new member linked at its layers, from layer 0 up.
 ghost use Rattle.std.specs.Prelude.{◌≡◌, ◌≢◌, ◌<◌, ◌≤◌, ◌+◌, ◌*◌, ℕ, [], IfOk, OnOk, All, length};
 ghost use Rattle.vs_graph.specs.Edits.{overwritten};
 ghost use Rattle.vs_graph.specs.Good.{links_at, layers_at, AreLinksGood, IsEntry, StandsAt};

@@ -1,3 +1,4 @@
+//! The public call that makes a draft over a graph.
 ghost use Rattle.std.specs.Prelude.{◌≡◌, ◌<◌, ◌≤◌, ◌+◌, ℕ, List as Items, IfOk, length};
 ghost use Rattle.vs_defs.specs.Words.{FitsDimension, bits_of_words};
 ghost use Rattle.vs_defs.specs.Insertion.{IsChosen};

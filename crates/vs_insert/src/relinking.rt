@@ -1,3 +1,4 @@
+//! One member that a removal left without a link at a layer, joined to the choice of a beam in the graph before the removal.
 ghost use Rattle.std.specs.Prelude.{◌≡◌, ◌≢◌, ℕ, [], Some, IsSome, IfOk, OnOk};
 ghost use mathlib.Core.HProp.{IsProp-prop};
 ghost use Rattle.vs_rank.specs.Tests.{Answers};
@@ -83,8 +84,7 @@ fn choice_for<N: Nodes, F: Testing, L: Ledger>(
 {
     let nodes = graph.nodes();
     let start = start_of(edit, nodes, entry, orphan.id, reads);
-    let query = live_node(edit, nodes, orphan.id, reads)
-        .body.bits();
+    let query = live_node(edit, nodes, orphan.id, reads).body.bits();
     let search = beam(
         alloc,
         graph,

@@ -1,3 +1,4 @@
+//! Each fault that the plain test of a good graph names is seen in a graph made for it.
 ghost use Rattle.std.specs.Prelude.{◌≡◌, ◌<◌};
 
 use super::*;

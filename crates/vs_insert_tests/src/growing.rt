@@ -1,3 +1,4 @@
+//! Graphs grown by drafts and commits.
 ghost use Rattle.std.specs.Prelude.{◌≡◌, ◌∷◌, ◌≤◌, ℕ, List as Items, [], IfOk, OnOk};
 ghost use Rattle.vs_defs.specs.Words.{FitsDimension};
 ghost use Rattle.vs_insert.specs.declared.draft.Chosen.{Chosen};

@@ -1,3 +1,4 @@
+//! Removals in grown graphs, tested plainly after each.
 ghost use Rattle.std.specs.Prelude.{◌≡◌, ◌<◌, ◌≤◌};
 
 use super::*;

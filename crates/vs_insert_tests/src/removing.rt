@@ -1,3 +1,4 @@
+//! Removals for tests.
 ghost use Rattle.std.specs.Prelude.{ℕ, IfOk, IfSome, OnOk};
 ghost use Rattle.vs_graph.specs.Edits.{overwritten};
 ghost use Rattle.vs_graph.specs.Good.{AreLinksGood, IsGood};

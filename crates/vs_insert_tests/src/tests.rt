@@ -1,3 +1,4 @@
+//! Drafts and commits: lost room, levels, the entry, the count of reads.
 ghost use Rattle.std.specs.Prelude.{◌≡◌, ◌<◌, ◌≤◌};
 
 use super::*;

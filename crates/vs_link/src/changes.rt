@@ -1,3 +1,4 @@
+//! A link made, or given in place of another, at both ends.
 ghost use Rattle.std.specs.Prelude.{◌≡◌, ◌<◌, ◌+◌, ◌≤◌, Some, OnOk};
 ghost use Rattle.vs_graph.specs.Edits.{overwritten};
 ghost use Rattle.vs_graph.specs.Good.{links_at, layers_at};

@@ -1,3 +1,4 @@
+//! The choice of neighbours: the heuristic of the HNSW paper, over candidates in the order of their distances.
 ghost use Rattle.std.specs.Prelude.{◌≡◌, ◌≤◌, ◌+◌, ◌*◌, ℕ, List as Items, IsSome, IfOk, All, map, length};
 ghost use Rattle.vs_defs.specs.Vector.{Vector, ham};
 ghost use Rattle.vs_defs.specs.Links.{bits_at};

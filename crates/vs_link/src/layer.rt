@@ -1,3 +1,5 @@
+//! A member joined at one layer: its chosen are offered in order, and where none accepts, one is made to. Keeps links good, and nobody
+//! loses its last link.
 ghost use Rattle.std.specs.Prelude.{◌≡◌, ◌≢◌, ◌<◌, ◌≤◌, ◌+◌, ◌*◌, ℕ, [], Some, None, OnOk, List, length, map, option_map};
 ghost use Rattle.vs_defs.specs.Insertion.{SameLinks};
 ghost use Rattle.vs_defs.specs.Linking as defs;

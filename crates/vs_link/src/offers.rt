@@ -1,3 +1,5 @@
+//! One offer: a member with room takes the new one, a full one takes it only in place of a farther neighbour that has another link; and the
+//! forced link of a member that nobody took (this project's rules).
 ghost use Rattle.std.specs.Prelude.{◌≡◌, ◌≢◌, ◌<◌, ◌≤◌, ◌+◌, ◌*◌, ◌==◌, ◌&&◌, not, false, ℕ, Some, None, IsSome, IfSome, IfOk, OnOk, length};
 ghost use Rattle.vs_graph.specs.Edits.{overwritten};
 ghost use Rattle.vs_graph.specs.Good.{links_at, links_of, body_at, layers_at};
@@ -35,10 +37,7 @@ fn yielding<N: Nodes, L: Ledger>(
     ensures told { reads.new ≡ reads.old + length (links_of own.now layer) + 1 }
 {
     let words = own.body.bits();
-    let near = distance(
-        words,
-        live_node(edit, base, x, reads).body.bits(),
-    );
+    let near = distance(words, live_node(edit, base, x, reads).body.bits());
     match farthest_of(edit, base, words, links(own, layer), reads) {
         Some(far) if near < far.dist && degree(far.node, layer) > 1 => Some(far.id),
         _ => None,

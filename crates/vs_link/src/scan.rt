@@ -1,3 +1,4 @@
+//! The farthest neighbour and the nearest one with room, by distance, then name.
 ghost use Rattle.std.specs.Prelude.{◌≡◌, ◌<◌, ◌≤◌, ◌+◌, ℕ, Some, None, IsSome, IfSome, length, option_map, filter, Contains, All};
 ghost use Rattle.vs_defs.specs.Words.{words_ham};
 ghost use Rattle.std.specs.declared.option.Option.{Option};
@@ -26,10 +27,7 @@ pub(crate) struct Near<'a> {
 fn order(a: Near, b: Near) -> Ordering
     ensures { result ≡ near_cmp a.entry b.entry }
 {
-    let names = a
-        .node
-        .body.name()
-        .cmp(b.node.body.name());
+    let names = a.node.body.name().cmp(b.node.body.name());
     a.dist.cmp(&b.dist).then(names)
 }
 

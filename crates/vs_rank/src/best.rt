@@ -1,3 +1,5 @@
+//! The least keys of those offered, as many as are asked for. An offer takes no memory once there is spare room, and what is beyond a full
+//! list stays beyond it.
 ghost use Rattle.std.specs.Prelude.{◌≡◌, ◌≤◌, ◌<◌, ◌+◌, ◌-◌, [], take, length, map, OnOk, true, false};
 ghost use Rattle.std.specs.Option.{option_map_or, option_map, option_copied};
 ghost use Rattle.std.specs.Ordering.{nat_cmp};

@@ -1,3 +1,4 @@
+//! A queue that gives the least key first.
 ghost use Rattle.std.specs.Prelude.{◌≡◌, ◌≤◌, ◌<◌, ◌+◌, [], ◌∷◌, false, All, IfSome, IfNone, OnOk, IsPermutation};
 ghost use Rattle.vs_rank.specs.Ranked.{Queue, key_lt};
 

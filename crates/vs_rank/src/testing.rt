@@ -1,3 +1,4 @@
+//! Tests of attributes as a trait, so that a struct can cite what a closure answers.
 ghost use Rattle.std.specs.Prelude.{Bool};
 ghost use Rattle.std.specs.Option.{option_copied};
 ghost use Rattle.vs_rank.specs.Tests.{Attribute, GivesAt};

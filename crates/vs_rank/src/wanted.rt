@@ -1,3 +1,4 @@
+//! A test of attributes beside the predicate that it answers.
 ghost use Rattle.std.specs.Prelude.{◌≡◌, Bool};
 ghost use Rattle.std.specs.Option.{option_copied};
 ghost use mathlib.Core.HProp.{IsProp-prop};

@@ -1,3 +1,4 @@
+//! Beams compared with the exact scan.
 ghost use Rattle.std.specs.Prelude.{◌≡◌, ◌≤◌, ◌*◌, IfOk, All, length};
 ghost use mathlib.Core.HProp.{IsProp-prop};
 ghost use Rattle.vs_rank.specs.Tests.{AnswersOne};

@@ -1,3 +1,4 @@
+//! What ends the program early.
 use thiserror::Error;
 use vs_outside::NoMemory;
 

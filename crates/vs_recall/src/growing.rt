@@ -1,3 +1,4 @@
+//! A graph of generated members.
 ghost use Rattle.std.specs.Prelude.{◌≡◌, ◌≤◌, ◌<◌, IfOk, length};
 ghost use Rattle.vs_defs.specs.Draws.{level_of};
 

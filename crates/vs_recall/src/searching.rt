@@ -1,3 +1,4 @@
+//! One search by a descent and a beam.
 ghost use Rattle.std.specs.Prelude.{◌≡◌, ◌<◌, ◌≤◌, IfOk, length};
 ghost use Rattle.vs_defs.specs.Words.{FitsDimension};
 ghost use Rattle.vs_graph.specs.Good.{IsGood};

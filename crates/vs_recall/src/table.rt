@@ -1,3 +1,4 @@
+//! The generated members as a list, for the exact scan.
 ghost use Rattle.std.specs.Prelude.{◌≡◌, ◌<◌, ◌≤◌, ◌^◌, All, length};
 
 use crate::error::RecallError;

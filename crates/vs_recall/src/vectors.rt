@@ -1,3 +1,4 @@
+//! Generated vectors.
 ghost use Rattle.std.specs.Prelude.{◌≡◌, IfOk, length};
 
 use crate::error::RecallError;

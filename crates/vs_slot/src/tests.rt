@@ -1,3 +1,4 @@
+//! The marks at the borders of the epoch and of the limit.
 use super::*;
 
 #[test]

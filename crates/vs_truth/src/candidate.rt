@@ -1,3 +1,4 @@
+//! A member that an exact search may answer, ordered by distance, then name.
 /// A member by its place, and its distance to what is looked for.
 #[derive(Clone, Copy, Debug, PartialEq, Eq)]
 pub struct Hit {

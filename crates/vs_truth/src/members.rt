@@ -1,3 +1,4 @@
+//! Members in their order, as an exact search reads them.
 ghost use Rattle.std.specs.Prelude.{◌≡◌, ◌+◌, ◌≤◌, ◌<◌, List, length, slice_get, IsSomeAnd};
 ghost use Rattle.std.specs.Option.{option_copied};
 ghost use Rattle.vs_defs.specs.Store.{Member};

@@ -1,3 +1,4 @@
+//! Exact search: one scan over all members, in any order of their distances.
 ghost use Rattle.std.specs.Prelude.{◌≡◌, ◌+◌, ◌≤◌, Bool, Option, length, map, take, All, IfOk};
 ghost use Rattle.vs_defs.specs.Bytes.{Bytes, sort_by};
 ghost use Rattle.vs_defs.specs.FilterText.{passes_filter};

@@ -1,3 +1,4 @@
+//! One layer of a removal: the member's links go at both ends, and its former neighbours are paired.
 ghost use Rattle.std.specs.Prelude.{◌≡◌, ◌≢◌, ◌<◌, ◌≤◌, ◌+◌, ℕ, List as Items, [], Some, IfOk, OnOk, All, length};
 ghost use Rattle.vs_graph.specs.Edits.{overwritten};
 ghost use Rattle.vs_graph.specs.Good.{links_at, StandsAt, AreLinksGood};

@@ -1,3 +1,4 @@
+//! Members in the order of their names.
 ghost use Rattle.std.specs.Prelude.{◌≡◌, IsSome, IfOk, All, map};
 ghost use Rattle.vs_graph.specs.Edits.{overwritten};
 ghost use Rattle.vs_graph.specs.Good.{body_at};

@@ -1,3 +1,4 @@
+//! Those whom a removal leaves without a link, by layer from the top down, then by name.
 ghost use Rattle.std.specs.Prelude.{◌≡◌, ◌++◌, ◌==◌, ℕ, List as Items, IsSome, IfOk, OnOk, All, filter, length};
 ghost use Rattle.vs_graph.specs.Edits.{overwritten};
 ghost use Rattle.vs_graph.specs.Good.{body_at, links_at, links_of};

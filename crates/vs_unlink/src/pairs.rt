@@ -1,3 +1,5 @@
+//! The pairs of former neighbours that are joined: a greedy matching by distance, then names, so that no pair of two unjoined, unlinked
+//! ones is left.
 ghost use Rattle.std.specs.Prelude.{◌≡◌, ◌<◌, ◌+◌, ◌||◌, IsSome, IfOk, OnOk, length, All, map, nat_eq, false, slice_index_or, Some};
 ghost use Rattle.std.specs.List.{list_any, IsDistinct};
 ghost use Rattle.vs_graph.specs.Edits.{overwritten};

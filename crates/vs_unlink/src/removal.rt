@@ -1,3 +1,4 @@
+//! A member taken out of all its layers. Keeps links good but for those who are listed.
 ghost use Rattle.std.specs.Prelude.{◌≡◌, ◌<◌, ◌≤◌, ℕ, Some, IsSome, IfOk, OnOk, All};
 ghost use Rattle.vs_graph.specs.Edits.{overwritten};
 ghost use Rattle.vs_graph.specs.Good.{links_at, AreLinksGood};
