@@ -1,3 +1,4 @@
+//! A change of one list of links as a value, which an edit applies where the node is.
 ghost use Rattle.std.specs.Prelude.{◌≡◌, ◌<◌, length, OnOk, OnErr, IsSomeAnd, option_map};
 ghost use Rattle.vs_graph.specs.Relinks.{relinked};
 
