@@ -18,3 +18,6 @@ pub mod Entries
 pub mod Turns
 pub mod Walked
 pub mod Removal
+pub mod AddedAgain
+pub mod Renamed
+pub mod Lists
