@@ -1,6 +1,6 @@
 -- A member that was taken out and is added again at its id stands in its old place.
-use Rattle.std.proofs.Common.{◌≡◌, ◌≢◌, ℕ, List, [], sym, ap, ◌∙◌}
-use Rattle.std.specs.Prelude.{Some, None, IsSome, is_some, IsSomeAnd, option_map}
+use Rattle.std.proofs.Common.{◌≡◌, ◌≢◌, ℕ, List, sym, ap, ◌∙◌}
+use Rattle.std.specs.Prelude.{Some, None, is_some, IsSomeAnd, option_map}
 use Rattle.std.specs.Option.{option_map_or}
 use Rattle.std.specs.declared.option.Option.{Option}
 use Rattle.vs_defs.specs.Store.{with_replaced}

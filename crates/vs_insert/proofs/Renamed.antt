@@ -1,7 +1,7 @@
 -- Chosen members under other ids: by their names they may be linked to all the same.
-use Rattle.std.proofs.Common.{◌≡◌, ◌≢◌, ℕ, zero, suc, ◌<◌, ◌≤◌, false, true, List, [], ◌∷◌, length, map, get_or, refl, sym, ap, ◌∙◌, subst, arith, eqb}
+use Rattle.std.proofs.Common.{◌≡◌, ◌≢◌, ℕ, suc, ◌<◌, ◌≤◌, false, true, List, [], ◌∷◌, length, get_or, sym, ap, ◌∙◌, subst, arith}
 use Rattle.std.specs.Prelude.{nat_eq, IsSome, IsTrue, All, AllPairs}
-use Rattle.std.specs.List.{list_any, IsDistinct}
+use Rattle.std.specs.List.{IsDistinct}
 use Rattle.std.specs.declared.option.Option.{Option}
 use Rattle.std.proofs.lemmas.Bool.{ltb-true, ne_eqb}
 use Rattle.std.proofs.lemmas.List.{length-map, get_or-map}
@@ -10,7 +10,7 @@ use Rattle.std.proofs.lemmas.Map.Keys.{IsDistinct-cons}
 use Rattle.vs_defs.specs.Bytes.{Bytes}
 use Rattle.vs_defs.specs.Links.{stands_at}
 use Rattle.vs_graph.specs.declared.node.Node.{Node}
-use Rattle.vs_graph.specs.Good.{layers_at, StandsAt, AreLinksGood}
+use Rattle.vs_graph.specs.Good.{layers_at, AreLinksGood}
 use Rattle.vs_graph.specs.Standing.{AreIds, members_of, name_of}
 use Rattle.vs_graph.proofs.Goods.{distinct_none, level_from}
 use Rattle.vs_graph.proofs.Standing.{are_members}

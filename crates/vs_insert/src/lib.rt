@@ -7,6 +7,7 @@ mod committing;
 mod draft;
 mod highest;
 mod joining;
+mod laws;
 mod preparing;
 mod relinking;
 mod removing;
@@ -14,6 +15,10 @@ mod removing;
 pub use committing::commit;
 pub use draft::{Chosen, Draft};
 pub use highest::highest_but;
+pub use laws::{
+    a_choice_has_few_different_members_of_each_layer, a_member_added_again_keeps_its_place,
+    members_found_by_name_may_be_linked_to,
+};
 pub use preparing::prepare;
 pub use relinking::relink;
 pub use removing::without;
