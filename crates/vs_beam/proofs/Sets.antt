@@ -14,7 +14,7 @@ use Rattle.std.proofs.lemmas.Slice.Eq.{bytes_eq-Decides}
 use Rattle.vs_defs.specs.Bytes.{Bytes, same_name, last_in}
 use Rattle.vs_defs.specs.Vector.{Vector, ham}
 use Rattle.vs_defs.specs.Words.{FitsDimension, bits_of_words, words_ham}
-use Rattle.vs_defs.specs.Store.{Member, Set, member_of, HasNamesOnce}
+use Rattle.vs_defs.specs.Store.{Member, Set, member_of, HasNamesOnce, no_member}
 use Rattle.vs_defs.specs.Store as store
 use Rattle.vs_defs.specs.Links.{links_of, stands_at, reaches, neighbours}
 use Rattle.vs_defs.specs.Beam as defs
@@ -51,11 +51,11 @@ fits_node None layer m dim h g = absurd h
 fits_node (Some node) layer m dim h g = g.words
 
 level_true : (o : Option Node) (layer dim : ℕ) → IsSomeAnd o (λ node. layer ≤ node.level)
-    → nat_le layer (option_map_or (member_of_node dim) o (record { name = []; bits = []; attr = None; level = 0 })).level ≡ true
+    → nat_le layer (option_map_or (member_of_node dim) o no_member).level ≡ true
 level_true None layer dim h = absurd h
 level_true (Some node) layer dim h = le-leb layer node.level h
 
-level_same : (o : Option Node) (dim : ℕ) → (option_map_or (member_of_node dim) o (record { name = []; bits = []; attr = None; level = 0 })).level ≡ option_map_or (λ node. node.level) o 0
+level_same : (o : Option Node) (dim : ℕ) → (option_map_or (member_of_node dim) o no_member).level ≡ option_map_or (λ node. node.level) o 0
 level_same None dim = refl
 level_same (Some node) dim = refl
 
@@ -63,7 +63,7 @@ text_same : (attr : Option Attr) → option_map (λ (a : Attr). a.text) attr ≡
 text_same None = refl
 text_same (Some attr) = refl
 
-attr_same : (o : Option Node) (dim : ℕ) → (option_map_or (member_of_node dim) o (record { name = []; bits = []; attr = None; level = 0 })).attr ≡ option_map_or (λ node. option_map_or (λ attr. Some attr.text) node.attr None) o None
+attr_same : (o : Option Node) (dim : ℕ) → (option_map_or (member_of_node dim) o no_member).attr ≡ option_map_or (λ node. option_map_or (λ attr. Some attr.text) node.attr None) o None
 attr_same None dim = refl
 attr_same (Some node) dim = text_same node.attr
 

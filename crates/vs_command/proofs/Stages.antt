@@ -2,16 +2,16 @@
 use Rattle.std.proofs.Common.{◌≡◌, List, Some, Ok, Err, Bool, true, false, length, drop, ◌+◌, refl, ap, ◌∙◌}
 use Rattle.vs_defs.specs.Bytes.{Bytes}
 use Rattle.vs_defs.specs.Request as model
-use Rattle.vs_defs.specs.Read.{Command, named, commands, word, fits_arity, read_command, read, read_known, read_known_by, find_sim_option, read_key, read_add_form, read_vector, read_name, read_options, find_add_option, no_add_options, read_vadd}
+use Rattle.vs_defs.specs.Read.{Command, named, commands, word, fits_arity, read_command, read, read_known, read_key, read_add_form, read_vector, read_name, read_options, find_add_option, no_add_options, read_vadd}
 use Rattle.vs_defs.specs.Stages.{if_built, is_plain, plain_read}
 
-fitting : (words : List Bytes) (c : Command) → fits_arity c (length words) ≡ true → read_known (Some c) words ≡ read_command find_sim_option c words
-fitting words c fits = rw (fits, read_known, read_known_by) refl
+fitting : (words : List Bytes) (c : Command) → fits_arity c (length words) ≡ true → read_known (Some c) words ≡ read_command c words
+fitting words c fits = rw (fits, read_known) refl
 
-known : (words : List Bytes) (c : Command) → named (word words 0) commands ≡ Some c → fits_arity c (length words) ≡ true → read words ≡ read_command find_sim_option c words
+known : (words : List Bytes) (c : Command) → named (word words 0) commands ≡ Some c → fits_arity c (length words) ≡ true → read words ≡ read_command c words
 known words c e fits = ap (λ o. read_known o words) e ∙ fitting words c fits
 
-pub plain_of : (words : List Bytes) (c : Command) → named (word words 0) commands ≡ Some c → fits_arity c (length words) ≡ true → plain_read words ≡ if_built is_plain (read_command find_sim_option c words)
+pub plain_of : (words : List Bytes) (c : Command) → named (word words 0) commands ≡ Some c → fits_arity c (length words) ≡ true → plain_read words ≡ if_built is_plain (read_command c words)
 plain_of words c e fits = ap (if_built is_plain) (known words c e fits)
 
 pub served : (q : model.Request) → is_plain q ≡ true → if_built is_plain (Ok q) ≡ Ok q

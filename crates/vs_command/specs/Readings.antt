@@ -10,14 +10,14 @@ use Rattle.vs_command.specs.declared.request.Request.{Request}
 use Rattle.vs_command.specs.Refusals.{refusal_of}
 use Rattle.vs_command.specs.Requests.{request_of}
 use Rattle.vs_defs.specs.Bytes.{Bytes}
-use Rattle.vs_defs.specs.Read.{Reads, Command, read_command, find_sim_option}
+use Rattle.vs_defs.specs.Read.{Reads, Command, read_command}
 
 abbrev pub Gives : {T A : Type 0} → (T → A) → Result T Refusal → Reads A → Type 0
 Gives view (Ok x) reading = reading ≡ Ok (view x)
 Gives view (Err e) reading = IfSome (refusal_of e) (λ cause. reading ≡ Err cause)
 
 abbrev pub GivesRequest : Result Request Refusal → Command → List Bytes → Type 0
-GivesRequest result c words = Gives request_of result (read_command find_sim_option c words)
+GivesRequest result c words = Gives request_of result (read_command c words)
 
 abbrev pub IsWanting : {T : Type 0} → Result T Refusal → Type 0
 IsWanting result = result ≡ Err NoMemory

@@ -132,7 +132,7 @@ impl SimOptions {
     ) -> Result<usize, Refusal>
         requires within { at < length words.now }
         requires short { AreShort words.now }
-        ensures options { Gives (λ next. (sim_options_seen self.new, next)) result (taken (sim_option filter_in (sim_options_seen self.old) at (sim_option_seen option)) at words.now) }
+        ensures options { Gives (λ next. (sim_options_seen self.new, next)) result (taken (sim_option (sim_options_seen self.old) at (sim_option_seen option)) at words.now) }
         ensures within { IfOk result (λ next. (at < next) × (next ≤ length words.now)) }
         ensures bounds { AreSimOptionsInBounds (sim_options_seen self.old) → IfOk result (λ next. AreSimOptionsInBounds (sim_options_seen self.new)) }
     {
@@ -230,7 +230,7 @@ fn read_what(alloc: Global, words: &[Text]) -> Result<(What, usize), Refusal>
 pub(crate) fn read_vsim(alloc: Global, words: &[Text]) -> Result<Search, Refusal>
     requires arity { 4 ≤ length words.now }
     requires short { AreShort words.now }
-    ensures search { Gives (λ search. request.Vsim (search_of search)) result (vsim_in find_sim_option words.now) }
+    ensures search { Gives (λ search. request.Vsim (search_of search)) result (vsim_in words.now) }
     ensures bounds { IfOk result (λ search. IsSearchInBounds (search_of search)) }
 {
     let key = read_key(word(words, 1))?;

@@ -12,7 +12,7 @@ use Rattle.std.proofs.lemmas.Option.{same_Some}
 use Rattle.std.proofs.lemmas.Cmp.{nat_cmp_total, nat_list_cmp_total, then_total, on_total, back_total, upto}
 use Rattle.std.proofs.lemmas.Map.Lookups.{exact_bytes}
 use Rattle.vs_defs.specs.Bytes.{sort_by, first_in}
-use Rattle.vs_defs.specs.Store.{Member}
+use Rattle.vs_defs.specs.Store.{Member, no_member}
 use Rattle.vs_defs.specs.Removal as rules
 use Rattle.vs_graph.specs.declared.node.Node.{Node}
 use Rattle.vs_graph.specs.Good.{AreLinksGood}
@@ -95,7 +95,7 @@ then_second Equal b h = h
 then_second Greater b h = absurd (both_ways true (ap is_gt h) refl)
 
 heights : (dim : ℕ) (o p : Option Node) → IsSomeAnd o (λ n. IfSome p (λ k. is_gt (height n k) ≡ false)) → IsSome p
-    → is_gt (rules.height (option_map_or (member_of_node dim) o (record { name = []; bits = []; attr = None; level = 0 })) (option_map_or (member_of_node dim) p (record { name = []; bits = []; attr = None; level = 0 }))) ≡ false
+    → is_gt (rules.height (option_map_or (member_of_node dim) o no_member) (option_map_or (member_of_node dim) p no_member)) ≡ false
 heights dim None p h some = absurd h
 heights dim (Some n) None h some = absurd (both_ways false refl some)
 heights dim (Some n) (Some k) h some = h

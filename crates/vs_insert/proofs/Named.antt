@@ -7,7 +7,7 @@ use Rattle.std.specs.declared.option.Option.{Option}
 use Rattle.std.proofs.lemmas.Bool.{cases_eq, cond-true, le-leb, both_ways, ne_eqb, eq-eqb}
 use Rattle.std.proofs.lemmas.List.{map-append}
 use Rattle.vs_defs.specs.Bytes.{Bytes}
-use Rattle.vs_defs.specs.Store.{Member}
+use Rattle.vs_defs.specs.Store.{Member, no_member}
 use Rattle.vs_defs.specs.Links.{Links}
 use Rattle.vs_defs.specs.Beam as defs
 use Rattle.vs_defs.specs.Beam.{layers_down}
@@ -48,7 +48,7 @@ live_name : (o : Option Node) (name : Bytes) → IsSome o → IfSome o (λ other
 live_name None name h apart e = absurd (both_ways false refl h)
 live_name (Some n) name h apart e = apart e
 
-pub level_of_member : (dim : ℕ) (o : Option Node) → (option_map_or (member_of_node dim) o (record { name = []; bits = []; attr = None; level = 0 })).level ≡ option_map_or (λ n. n.level) o 0
+pub level_of_member : (dim : ℕ) (o : Option Node) → (option_map_or (member_of_node dim) o no_member).level ≡ option_map_or (λ n. n.level) o 0
 level_of_member dim None = refl
 level_of_member dim (Some n) = refl
 

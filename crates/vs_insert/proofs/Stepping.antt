@@ -9,7 +9,7 @@ use Rattle.std.proofs.lemmas.Bool.{cases_eq, cond-false, leb-true, both_ways}
 use Rattle.std.proofs.lemmas.List.{reverse-append}
 use Rattle.std.proofs.lemmas.Slice.Eq.{bytes_eq-Decides}
 use Rattle.vs_defs.specs.Bytes.{Bytes, same_name}
-use Rattle.vs_defs.specs.Store.{Member}
+use Rattle.vs_defs.specs.Store.{Member, no_member}
 use Rattle.vs_defs.specs.Links.{Links, neighbours, another_stands}
 use Rattle.vs_defs.specs.Linking as rules
 use Rattle.vs_defs.specs.Insertion.{SameLinks, linked_along}
@@ -58,7 +58,7 @@ and_false : (p : Bool) → (p && false) ≡ false
 and_false true = refl
 and_false false = refl
 
-too_low : (layer : ℕ) (dim : ℕ) (o : Option Node) → IsSome o → (IsSomeAnd o (λ node. layer ≤ node.level) → ⊥) → (b : Bool) → nat_le layer (option_map_or (member_of_node dim) o (record { name = []; bits = []; attr = None; level = 0 })).level ≡ b → b ≡ false
+too_low : (layer : ℕ) (dim : ℕ) (o : Option Node) → IsSome o → (IsSomeAnd o (λ node. layer ≤ node.level) → ⊥) → (b : Bool) → nat_le layer (option_map_or (member_of_node dim) o no_member).level ≡ b → b ≡ false
 too_low layer dim None some h b e = absurd (both_ways false refl some)
 too_low layer dim (Some node) some h false e = refl
 too_low layer dim (Some node) some h true e = absurd (h (leb-true layer node.level e))

@@ -19,7 +19,7 @@ use Rattle.std.proofs.lemmas.List.Quantifiers.{position-Some}
 use Rattle.std.proofs.lemmas.Slice.Eq.{bytes_eq-Decides}
 use Rattle.vs_defs.specs.Bytes.{Bytes, last_in}
 use Rattle.vs_defs.specs.Draws.{name_at}
-use Rattle.vs_defs.specs.Store.{Member, names_of, is_of_name, is_member, member_of, with_replaced, without_member, put_last_at, HasNamesOnce}
+use Rattle.vs_defs.specs.Store.{Member, names_of, is_of_name, is_member, member_of, with_replaced, without_member, put_last_at, no_member, HasNamesOnce}
 use Rattle.vs_plain_set.specs.Kept.{IsAt}
 
 abbrev pub at_place : (o : Option Member) (name : Bytes) → IsSomeAnd o (λ x. x.name ≡ name) → (x : Member) × (o ≡ Some x) × (x.name ≡ name)
@@ -139,14 +139,11 @@ moved name o p e h =
     let at = at_place p name h in
     stands name o at.0 (e ∙ at.1) at.2
 
-a_member : Member
-a_member = record { name = []; bits = []; attr = None; level = 0 }
-
 pub a_place : (name : Bytes) (ms : List Member) (i : ℕ) → position (is_of_name name) ms ≡ Some i → (is_member name ms ≡ true) × IsAt name i ms
 a_place name ms i e =
-    let at = position-Some (is_of_name name) ms i a_member e in
-    let x : Member = get_or ms i a_member in
-    let g : slice_get ms i ≡ Some x = slice_get-get_or ms i a_member at.0 in
+    let at = position-Some (is_of_name name) ms i no_member e in
+    let x : Member = get_or ms i no_member in
+    let g : slice_get ms i ≡ Some x = slice_get-get_or ms i no_member at.0 in
     let named : x.name ≡ name = sym ((bytes_eq-Decides name x.name).0 at.1) in
     let n : ℕ = position_or_len (is_of_name name) ms in
     let is : n ≡ i = (cond_some (ltb n (length ms)) n i e).1 in

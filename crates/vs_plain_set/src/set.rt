@@ -2,6 +2,7 @@
 ghost use Rattle.std.specs.Prelude.{◌≡◌, ℕ, ◌<◌, ◌≤◌, ◌∷◌, [], true, false, pos, is_some, find, length, map, option_map, position, Some, None, IfOk, IfSome, OnOk, OnErr};
 ghost use Rattle.std.specs.Option.{option_copied};
 ghost use Rattle.vs_defs.specs.Bytes.{Bytes, same_name};
+ghost use Rattle.vs_defs.specs.Draws.{level_of};
 ghost use Rattle.vs_defs.specs.PlainAnswer.{at_member, bulk_or_null};
 ghost use Rattle.vs_defs.specs.PlainStep.{new_set, added_to, removed, attributed};
 ghost use Rattle.vs_defs.specs.Request as request;
@@ -74,7 +75,7 @@ fn place_among(members: &[Member], name: &[u8]) -> Option<usize>
 impl Set {
     /// The set that a VADD of an absent key makes; `number` is that of the change, and `word` the one that was drawn.
     pub fn of_one(alloc: Global, add: Add, word: u32, number: u64) -> Result<Set, NoMemory>
-        ensures { IfOk result (λ set. set ≡ (add.key, new_set (add_of add) (word ∷ []) number)) }
+        ensures { IfOk result (λ set. set ≡ (add.key, new_set (add_of add) (level_of word) number)) }
     {
         let mut members = Vec::with_capacity(alloc, 1)?;
         let dim = add.bits.dim();
@@ -147,7 +148,7 @@ impl Set {
         requires new { is_member add.name self.old.1.members ≡ false }
         requires room { length self.old.1.members < 4294967295 }
         ensures key { self.new.0 ≡ self.old.0 }
-        ensures ok { OnOk result ((number : ℕ) → self.new.1 ≡ (added_to (add_of add) (word ∷ []) number self.old.1 None).0) }
+        ensures ok { OnOk result ((number : ℕ) → self.new.1 ≡ (added_to (add_of add) (level_of word) number self.old.1 None).0) }
         ensures err { OnErr result (self.new ≡ self.old) }
     {
         self.members.push(Member {
@@ -164,8 +165,8 @@ impl Set {
         requires dim { length add.bits ≡ self.old.1.dim }
         requires at { IsAt add.name place self.old.1.members }
         ensures key { self.new.0 ≡ self.old.0 }
-        ensures replaced { self.new.1 ≡ (added_to (add_of add) (word ∷ []) number self.old.1 (member_of add.name self.old.1.members)).0 }
-        ensures answer { (added_to (add_of add) (word ∷ []) number self.old.1 (member_of add.name self.old.1.members)).1 ≡ request.Int (pos 0) }
+        ensures replaced { self.new.1 ≡ (added_to (add_of add) (level_of word) number self.old.1 (member_of add.name self.old.1.members)).0 }
+        ensures answer { (added_to (add_of add) (level_of word) number self.old.1 (member_of add.name self.old.1.members)).1 ≡ request.Int (pos 0) }
     {
         let member = &mut self.members[place as usize];
         member.bits = add.bits;

@@ -110,9 +110,9 @@ no_member name members f = none_of (member_of name members) f
 
 -- ---- what VADD makes of a set
 
-pub added-new : (s : PlainStore) (add : Add) (words : List ℕ) (number : ℕ) (x : Contents) → set_of add.key s ≡ Some x → is_member add.name x.members ≡ false
-    → added add words number (set_of add.key s) ≡ added_to add words number x None
-added-new s add words number x is f = ap (added add words number) is ∙ ap (added_to add words number x) (no_member add.name x.members f)
+pub added-new : (s : PlainStore) (add : Add) (level number : ℕ) (x : Contents) → set_of add.key s ≡ Some x → is_member add.name x.members ≡ false
+    → added add level number (set_of add.key s) ≡ added_to add level number x None
+added-new s add level number x is f = ap (added add level number) is ∙ ap (added_to add level number x) (no_member add.name x.members f)
 
 -- ---- what a call with `?` answers
 

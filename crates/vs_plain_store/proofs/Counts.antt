@@ -36,6 +36,6 @@ long_replaced y (z ∷ zs) = by_test y z zs (is_of_name y.name z) (long_replaced
     by_test y z zs true h = refl
     by_test y z zs false h = omega (arith, h)
 
-pub long-replaced : (add : Add) (words : List ℕ) (n : ℕ) (x : Contents) (o : Option Member) → is_some o ≡ true → length (added_to add words n x o).0.members ≡ length x.members
-long-replaced add words n x None t = absurd (false≢true t)
-long-replaced add words n x (Some old) t = long_replaced (added_member add words old.attr) x.members
+pub long-replaced : (add : Add) (level n : ℕ) (x : Contents) (o : Option Member) → is_some o ≡ true → length (added_to add level n x o).0.members ≡ length x.members
+long-replaced add level n x None t = absurd (false≢true t)
+long-replaced add level n x (Some old) t = long_replaced (added_member add level old.attr) x.members

@@ -12,7 +12,7 @@ ghost use Rattle.vs_command.specs.Outcomes.{outcome_of};
 ghost use Rattle.vs_command.specs.Requests.{request_of};
 ghost use Rattle.vs_command.specs.Scores.{HasScores};
 ghost use Rattle.vs_plain_store.specs.Kept.{AreUsual, IsSetAt};
-ghost use Rattle.vs_plain_store.specs.Memory.{takes_no_memory};
+ghost use Rattle.vs_defs.specs.Memory.{needs_no_memory};
 ghost use Rattle.vs_plain_store.specs.Seen.{limits_seen};
 
 use crate::Limits;
@@ -72,7 +72,7 @@ impl Store {
         requires plain { is_plain (request_of request) ≡ true }
         ensures does { PlainDoes self.old (request_of request) words.now (outcome_of result) self.new }
         ensures scores { IfOk result HasScores }
-        ensures memory { takes_no_memory (request_of request) ≡ true → result ≢ Err Refusal.NoMemory }
+        ensures memory { needs_no_memory (request_of request) ≡ true → result ≢ Err Refusal.NoMemory }
     {
         match request {
             Request::Ping(None) => Ok(Answer::Pong),

@@ -5,7 +5,7 @@ use Rattle.vs_defs.specs.Bytes.{Bytes, listed}
 use Rattle.vs_defs.specs.Reply.{reply}
 use Rattle.vs_defs.specs.Request as request
 use Rattle.vs_defs.specs.Store.{PlainStore, Contents, Member, set_of, member_of}
-use Rattle.vs_defs.specs.PlainStep.{changed, added, added_to, number_of_change}
+use Rattle.vs_defs.specs.PlainStep.{changed, added, added_to, number_of_change, drawn_level}
 use Rattle.vs_defs.specs.PlainMachine.{PlainDoes}
 use Rattle.vs_command.specs.declared.answer.Answer.{Answer}
 use Rattle.vs_command.specs.declared.answer.Answer.TheVariants.{Int, Pong, Bye, Bulk, NullText, NullList, Names, Signs, Hits, Layers, Info as Informed}
@@ -17,16 +17,16 @@ use Rattle.vs_reply.specs.Replies.{short_of}
 abbrev IsNumber : request.Answer → Type 0
 IsNumber a = (n : ℤ) × (a ≡ request.Int n)
 
-added_to_number : (add : request.Add) (words : List ℕ) (number : ℕ) (x : Contents) (old : Option Member) → IsNumber (added_to add words number x old).1
-added_to_number add words number x None = (pos 1, refl)
-added_to_number add words number x (Some old) = (pos 0, refl)
+added_to_number : (add : request.Add) (level number : ℕ) (x : Contents) (old : Option Member) → IsNumber (added_to add level number x old).1
+added_to_number add level number x None = (pos 1, refl)
+added_to_number add level number x (Some old) = (pos 0, refl)
 
-added_number : (add : request.Add) (words : List ℕ) (number : ℕ) (x : Option Contents) → IsNumber (added add words number x).1
-added_number add words number None = (pos 1, refl)
-added_number add words number (Some x) = added_to_number add words number x (member_of add.name x.members)
+added_number : (add : request.Add) (level number : ℕ) (x : Option Contents) → IsNumber (added add level number x).1
+added_number add level number None = (pos 1, refl)
+added_number add level number (Some x) = added_to_number add level number x (member_of add.name x.members)
 
 changed_number : (s : PlainStore) (r : request.Request) (words : List ℕ) → IsNumber (changed s r words).1
-changed_number s (request.Vadd add) words = added_number add words (number_of_change s) (set_of add.key s)
+changed_number s (request.Vadd add) words = added_number add (drawn_level words) (number_of_change s) (set_of add.key s)
 changed_number s (request.Vrem key name) words = (pos 1, refl)
 changed_number s (request.Vsetattr key name text) words = (pos 1, refl)
 changed_number s (request.Del keys) words = (pos (count_by (λ e. listed e.0 keys) s.sets), refl)

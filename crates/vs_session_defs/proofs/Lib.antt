@@ -1,4 +1,2 @@
 mod SessionExample
 mod EndingExamples
-mod MachineExample
-mod GeneratorExample

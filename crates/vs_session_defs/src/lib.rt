@@ -1,2 +1,2 @@
-// The definitions of a connection and of generated members: those that draw words from a generator.
+//! The definitions of a connection and of the words that it draws from its generator. There is no code here.
 #![tactic(auto)]

@@ -76,5 +76,3 @@ distance_is q bits a b e p value kept =
     let other : bits_of_words (length q) b ≡ bits = ap (λ n. bits_of_words n b) (sym e) ∙ kept.same in
     words_ham-same (length q) a b p (subst (λ n. FitsDimension n b) e kept.fits) ∙ (λ t. ham (value t) (other t))
 
-pub a_member : Member
-a_member = record { name = []; bits = []; attr = None; level = 0 }

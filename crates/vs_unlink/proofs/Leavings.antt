@@ -6,7 +6,7 @@ use Rattle.std.specs.declared.option.Option.{Option}
 use Rattle.std.proofs.lemmas.Bool.{cases_eq, not-true, eq-eqb, eqb-false, ne_eqb}
 use Rattle.std.proofs.lemmas.Slice.Eq.{bytes_eq-Decides}
 use Rattle.vs_defs.specs.Bytes.{same_name}
-use Rattle.vs_defs.specs.Store.{Member, is_of_name}
+use Rattle.vs_defs.specs.Store.{Member, is_of_name, no_member}
 use Rattle.vs_defs.specs.Removal as rules
 use Rattle.vs_graph.specs.declared.node.Node.{Node}
 use Rattle.vs_graph.specs.Good.{AreLinksGood}
@@ -21,9 +21,6 @@ use Rattle.vs_unlink.specs.Unlinked.{bare}
 pub map_same_in : {X Y : Type 0} (f g : X → Y) (xs : List X) → ((x : X) → In x xs → f x ≡ g x) → map f xs ≡ map g xs
 map_same_in f g [] h = refl
 map_same_in f g (x ∷ xs) h = ap (λ y. y ∷ map f xs) (h x (inl refl)) ∙ ap (λ l. g x ∷ l) (map_same_in f g xs (λ y k. h y (inr k)))
-
-abbrev pub no_member : Member
-no_member = record { name = []; bits = []; attr = None; level = 0 }
 
 member_bare : (dim : ℕ) (o : Option Node) → option_map_or (member_of_node dim) (bare o) no_member ≡ option_map_or (member_of_node dim) o no_member
 member_bare dim None = refl

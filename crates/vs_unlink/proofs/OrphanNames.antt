@@ -11,7 +11,7 @@ use Rattle.std.proofs.lemmas.List.Concat.{flat_map-append}
 use Rattle.std.proofs.lemmas.List.Elements.{filter-append}
 use Rattle.std.proofs.lemmas.List.Sorted.{IsPermutation-map, IsPermutation-sym, IsPermutation-trans, Contains-permutation}
 use Rattle.vs_defs.specs.Bytes.{Bytes, name_cmp, sort_by}
-use Rattle.vs_defs.specs.Store.{Member}
+use Rattle.vs_defs.specs.Store.{Member, no_member}
 use Rattle.vs_defs.specs.Links.{neighbours}
 use Rattle.vs_defs.specs.Beam.{layers_down, level_at}
 use Rattle.vs_defs.specs.Removal as rules
@@ -37,7 +37,7 @@ none_at : (n : ℕ) → nat_lt n 1 ≡ nat_eq n 0
 none_at n = same_test (nat_lt n 1) (nat_eq n 0) (λ h. eq-eqb n 0 (omega (arith, ltb-true n 1 h))) (λ h. lt-ltb n 1 (omega (arith, eqb-true n 0 h)))
 
 layers_by : (m dim : ℕ) (o : Option Node) → IsSome o → IfSome o (IsGoodNode m dim)
-    → option_map_or (λ node. length node.links) o 0 ≡ (option_map_or (member_of_node dim) o (record { name = []; bits = []; attr = None; level = 0 })).level + 1
+    → option_map_or (λ node. length node.links) o 0 ≡ (option_map_or (member_of_node dim) o no_member).level + 1
 layers_by m dim None some good = absurd (both_ways false refl some)
 layers_by m dim (Some node) some good = good.layers
 

@@ -5,6 +5,7 @@ use Rattle.std.proofs.lemmas.List.Elements.{All-set}
 use Rattle.std.proofs.lemmas.List.Sums.{sum_by-set}
 use Rattle.std.proofs.lemmas.Option.{get_or_from_slice_get, slice_get_within}
 use Rattle.vs_defs.specs.Bytes.{Bytes}
+use Rattle.vs_defs.specs.Draws.{level_of}
 use Rattle.vs_defs.specs.PlainMachine.{PlainChanges, PlainDoes}
 use Rattle.vs_defs.specs.PlainStep.{added, added_to, added_member, one}
 use Rattle.vs_defs.specs.Refuse.{store_refusal}
@@ -100,7 +101,7 @@ invariant_of-self-2 c =
     let key = c.push.ensures.key ∙ ap (λ (e : Bytes × Contents). e.0) read in
     let before : length c.index_mut.result.now.1.members ≡ length x.members = ap (λ (e : Bytes × Contents). length e.1.members) read in
     let count : length c.push.new.self.1.members ≡ length x.members + 1
-    = omega (arith, ap (λ (y : Contents). length y.members) (c.in_ok-push.ensures.ok 0), length-append c.index_mut.result.now.1.members (added_member (add_of c.args.add) (c.args.word ∷ []) None ∷ []), before) in
+    = omega (arith, ap (λ (y : Contents). length y.members) (c.in_ok-push.ensures.ok 0), length-append c.index_mut.result.now.1.members (added_member (add_of c.args.add) (level_of c.args.word) None ∷ []), before) in
     let first = read-at s.sets c.args.place c.args.add.key x c.index.result.now at.at c.index.ensures in
     let held : c.count-count.result ≡ length x.members = c.count-count.ensures ∙ ap (λ (e : Bytes × Contents). length e.1.members) first in
     let few : length x.members < c.self.inside.limits.set = omega (arith, held, c.if-count-self.false) in
@@ -118,17 +119,18 @@ returns-clause-does c =
     let s : PlainStore = record { sets = c.self.inside.sets.items; changes = c.self.inside.changes; limits = limits_seen c.self.inside.limits } in
     let add = add_of c.args.add in
     let words = c.args.word ∷ [] in
+    let level = level_of c.args.word in
     let x = c.requires.at.0 in
     let at = at-seen s c.args.self.now add.key c.args.place x c.self.view_is c.requires.at.1 in
     let first = read-at s.sets c.args.place add.key x c.index.result.now at.at c.index.ensures in
     let count : c.count-count.result ≡ length x.members = c.count-count.ensures ∙ ap (λ (e : Bytes × Contents). length e.1.members) first in
     let read = read-at s.sets c.args.place add.key x c.index_mut.result.now at.at c.index_mut.ensures.value in
     let key = c.push.ensures.key ∙ ap (λ (e : Bytes × Contents). e.0) read in
-    let made = added-new s add words (s.changes + 1) x at.of_key c.requires.at.3 in
+    let made = added-new s add level (s.changes + 1) x at.of_key c.requires.at.3 in
     let after : PlainStore = record { sets = slice_set s.sets c.args.place c.push.new.self; changes = c.in_ok-number.number; limits = s.limits } in
     let all : member_count s ≡ c.self.inside.members = sym c.self.invariant.counted in
-    let value : c.push.new.self.1 ≡ (added add words (s.changes + 1) (set_of add.key s)).0
-    = c.in_ok-push.ensures.ok (s.changes + 1) ∙ ap (λ (e : Bytes × Contents). (added_to add words (s.changes + 1) e.1 None).0) read ∙ sym (ap (λ (p : Contents × request.Answer). p.0) made) in
+    let value : c.push.new.self.1 ≡ (added add level (s.changes + 1) (set_of add.key s)).0
+    = c.in_ok-push.ensures.ok (s.changes + 1) ∙ ap (λ (e : Bytes × Contents). (added_to add level (s.changes + 1) e.1 None).0) read ∙ sym (ap (λ (p : Contents × request.Answer). p.0) made) in
     let number : c.in_ok-number.number ≡ s.changes + 1 = c.in_ok-number.ensures.ok.0 ∙ ap (λ (t : PlainStore). t.changes + 1) (sym c.self.view_is) in
     let done : PlainChanges s (request.Vadd add) words one after = record {
       unrefused = present-refusal s add x at.of_key
@@ -137,7 +139,7 @@ returns-clause-does c =
           ∙ limit-free s (omega (arith, c.in_ok-number.ensures.ok.1, ap (λ (t : PlainStore). t.changes) c.self.view_is, ap (λ (t : PlainStore). t.limits.changes) c.self.view_is));
       step = record {
         changes_something = refl;
-        sets = alike-written s.sets c.args.place add.key x (added add words (s.changes + 1) (set_of add.key s)).0 c.push.new.self at.at c.self.invariant.once key value;
+        sets = alike-written s.sets c.args.place add.key x (added add level (s.changes + 1) (set_of add.key s)).0 c.push.new.self at.at c.self.invariant.once key value;
         keys = keys-written s.sets c.args.place add.key x c.push.new.self at.at c.self.invariant.once key;
         answers = sym (ap (λ (p : Contents × request.Answer). p.1) made);
         number = number;

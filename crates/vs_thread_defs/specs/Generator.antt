@@ -10,7 +10,7 @@ use Rattle.vs_defs.specs.Request.{Request, Refusal, Answer, Search, Hit}
 use Rattle.vs_defs.specs.Request as request
 use Rattle.vs_defs.specs.Read.{read}
 use Rattle.vs_defs.specs.Store.{Set, names_of, set_of, usual_limits}
-use Rattle.vs_defs.specs.Machine.{GraphHistory, GraphLegal, store_of}
+use Rattle.vs_thread_defs.specs.Machine.{GraphHistory, GraphLegal, store_of}
 use Rattle.vs_defs.specs.Answers.{Answers}
 use Rattle.vs_defs.specs.Links.{links_of, neighbours}
 use Rattle.vs_defs.specs.Beam.{level_at}

@@ -13,7 +13,7 @@ use Rattle.vs_defs.specs.Store.{Store, Set, usual_limits, lookup_set}
 use Rattle.vs_defs.specs.Step.{wiring_at}
 use Rattle.vs_defs.specs.Reply.{Answered}
 use Rattle.vs_defs.specs.History.{Entry}
-use Rattle.vs_defs.specs.Machine.{Follows, GraphCall}
+use Rattle.vs_thread_defs.specs.Machine.{Follows, GraphCall}
 use Rattle.vs_session_defs.specs.Session.{Session}
 
 abbrev add : Add

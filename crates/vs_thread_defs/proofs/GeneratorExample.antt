@@ -12,8 +12,8 @@ use Rattle.vs_defs.specs.Request.{Add, Hit}
 use Rattle.vs_defs.specs.Store.{Store, Set, usual_limits, lookup_set}
 use Rattle.vs_defs.specs.Step.{wiring_at}
 use Rattle.vs_defs.specs.History.{Entry}
-use Rattle.vs_defs.specs.Machine.{Follows}
-use Rattle.vs_session_defs.specs.Generator.{Generates}
+use Rattle.vs_thread_defs.specs.Machine.{Follows}
+use Rattle.vs_thread_defs.specs.Generator.{Generates}
 
 abbrev add : Add
 add = record { key = codes "g"; name = codes "m0"; bits = true ∷ []; cas = false; ef = 64; m = None; attr = None }
