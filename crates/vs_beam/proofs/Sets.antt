@@ -32,7 +32,7 @@ use Rattle.vs_graph.proofs.Standing.{names_differ, member_there, bits_there, are
 use Rattle.vs_rank.specs.declared.Key.{Key}
 use Rattle.vs_rank.specs.Tests.{Attribute}
 use Rattle.vs_beam.specs.Beam.{ranked, IsKnown, IsBeam, IsDescent}
-use Rattle.vs_beam.specs.Named.{stops_named, keys_named, PassesBy, DescentIsDefined, BeamIsDefined, ExpansionIsDefined, ReadsAreDefined}
+use Rattle.vs_beam.specs.Named.{stops_named, keys_named, PassesBy, IsNamedDescent, IsNamedBeam}
 use Rattle.vs_beam.proofs.Visits.{some_and}
 use Rattle.vs_beam.proofs.Stages.{Stage, IsNamedBy, Approaches, DescendsFrom, IsMet, IsNextName}
 use Rattle.vs_beam.proofs.Names.{is_named, same_names}
@@ -280,22 +280,23 @@ module _ (at : ℕ → Option Node) (entry m dim cut : ℕ) (ids query : List �
   pub start_is : descent_start here (stops_named at top low stops) ≡ Some (name_of at start)
   start_is = start_by (ltb top low) refl d.last
 
--- ---- the laws
+-- ---- the whole
 
-pub descent_is_defined : DescentIsDefined
-descent_is_defined at entry m dim cut ids query low start top stops good are fits positive d =
-    (descent_is at entry m dim cut ids query good are fits low start top stops positive d, start_is at entry m dim cut ids query good are fits low start top stops positive d)
+pub named_descent : (at : ℕ → Option Node) (entry m dim : ℕ) (query : List ℕ) (low start top : ℕ) (stops : List ℕ) → IsGood at (Some entry) m dim → FitsDimension dim query → 1 ≤ low → IsDescent at entry query low start top stops
+    → IsNamedDescent at (Some entry) m dim query low start top stops
+named_descent at entry m dim query low start top stops good fits positive d = record {
+  descends = λ cut ids are. descent_is at entry m dim cut ids query good are fits low start top stops positive d;
+  starts = λ cut ids are. start_is at entry m dim cut ids query good are fits low start top stops positive d;
+}
 
-pub beam_is_defined : BeamIsDefined
-beam_is_defined at entry m dim cut ids query layer start ef effort passes pass tried expanded found good are fits by beam =
-    beam_is at entry m dim cut ids query passes pass good are fits by layer start ef effort tried expanded found beam
-
-pub expansion_is_defined : ExpansionIsDefined
-expansion_is_defined at entry m dim cut ids query layer start ef effort passes pass tried expanded found good are fits by from beam =
-    expansion_is at entry m dim cut ids query passes pass good are fits by layer start ef effort tried expanded found from beam
-
-pub reads_are_defined : ReadsAreDefined
-reads_are_defined at entry m dim cut ids query layer start ef effort passes tried expanded found good are from beam =
+pub named_beam : (at : ℕ → Option Node) (entry : Option ℕ) (m dim layer start : ℕ) (query : List ℕ) (ef effort : ℕ) (passes : Attribute → Bool) (tried expanded : List ℕ) (found : List Key)
+    → IsGood at entry m dim → FitsDimension dim query → StandsAt at layer start → IsBeam at layer start query ef effort passes tried expanded found
+    → IsNamedBeam at entry m dim layer start query ef effort passes tried expanded found
+named_beam at entry m dim layer start query ef effort passes tried expanded found good fits from beam =
     let ends : (a b : ℕ) → IsLinked at layer a b → StandsAt at layer a × StandsAt at layer b = λ a b h. (good.links.stand layer b a (good.links.back layer a b h), good.links.stand layer a b h) in
     let stand = each_expanded_stands at layer start query ef effort passes tried expanded found ends from beam in
-    ap (λ n. 1 + n) (reads_same at entry m dim cut ids good are layer expanded (λ y has. are.live y ∙ some_and (at y) _ (stand y has)))
+    record {
+      beam = λ cut ids pass are by. beam_is at entry m dim cut ids query passes pass good are fits by layer start ef effort tried expanded found beam;
+      order = λ cut ids pass are by. expansion_is at entry m dim cut ids query passes pass good are fits by layer start ef effort tried expanded found from beam;
+      reads = λ cut ids are. ap (λ n. 1 + n) (reads_same at entry m dim cut ids good are layer expanded (λ y has. are.live y ∙ some_and (at y) _ (stand y has)));
+    }

@@ -1,7 +1,9 @@
 ghost use Rattle.std.specs.Prelude.{◌≡◌, ◌+◌, ◌*◌, ◌/◌, ◌<◌, ◌≤◌, ℕ, None, Some, length, IsSome, IfSome, IfNone, IsSomeAnd};
 ghost use Rattle.vs_defs.specs.Words.{FitsDimension};
 ghost use Rattle.vs_defs.specs.Counts.{descend_reads};
+ghost use Rattle.vs_graph.specs.Good.{StandsAt, IsGood};
 ghost use Rattle.vs_beam.specs.Beam.{far_at, level_at, HasWords, IsDescent};
+ghost use Rattle.vs_beam.specs.Named.{IsNamedDescent};
 
 use crate::steps_nearer::walk;
 use std::sync::ledger::Ledger;
@@ -52,6 +54,8 @@ fn descend_from<N: Nodes, L: Ledger>(
     requires high { to_layer ≤ 16 }
     requires fits { FitsDimension graph.now.dim query.now }
     ensures descent { IsDescent (N.at graph.now.nodes) entry query.now to_layer result.start result.top result.at }
+    ensures good { IsGood (N.at graph.now.nodes) graph.now.entry graph.now.m graph.now.dim }
+    ensures stands { (layer : ℕ) → layer < to_layer → layer ≤ result.top → StandsAt (N.at graph.now.nodes) layer result.start }
     ensures told { reads.new ≤ reads.old + 1 + (15 + graph.now.dim) * (graph.now.m + 1) }
 {
     let nodes = graph.nodes();
@@ -72,7 +76,8 @@ fn descend_from<N: Nodes, L: Ledger>(
 }
 
 /// Descends from the entry to a layer: at each layer from the entry's level down to `to_layer` it goes on to a strictly nearer neighbour
-/// until none is (greedy descent, after the HNSW paper). None exactly on an empty graph. It takes no memory.
+/// until none is (greedy descent, after the HNSW paper). Its start stands at each layer below that the entry has. None exactly on an empty
+/// graph. It takes no memory.
 pub fn descend<N: Nodes, L: Ledger>(
     graph: &Graph<N>,
     query: &[u64],
@@ -83,6 +88,8 @@ pub fn descend<N: Nodes, L: Ledger>(
     requires high { to_layer ≤ 16 }
     requires fits { FitsDimension graph.now.dim query.now }
     ensures some { IfSome result (λ d. IsSomeAnd graph.now.entry (λ entry. IsDescent (N.at graph.now.nodes) entry query.now to_layer d.start d.top d.at)) }
+    ensures stands { IfSome result (λ d. (layer : ℕ) → layer < to_layer → layer ≤ d.top → StandsAt (N.at graph.now.nodes) layer d.start) }
+    ensures named { IfSome result (λ d. IsNamedDescent (N.at graph.now.nodes) graph.now.entry graph.now.m graph.now.dim query.now to_layer d.start d.top d.at) }
     ensures none { IfNone result ((graph.now.entry ≡ None) × ((id : ℕ) → N.at graph.now.nodes id ≡ None)) }
     ensures told { reads.new ≤ reads.old + descend_reads graph.now.dim graph.now.m }
 {

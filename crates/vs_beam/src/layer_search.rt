@@ -3,6 +3,7 @@ ghost use Rattle.vs_defs.specs.Words.{FitsDimension};
 ghost use Rattle.vs_graph.specs.Good.{StandsAt};
 ghost use Rattle.vs_rank.specs.Tests.{Attribute, Answers};
 ghost use Rattle.vs_beam.specs.Beam.{IsBeam, IsSpent};
+ghost use Rattle.vs_beam.specs.Named.{IsNamedBeam};
 ghost use Rattle.vs_beam.specs.Searching.{expansion_cost};
 
 use crate::answer::Beam;
@@ -33,6 +34,7 @@ pub fn beam<N: Nodes, F: Testing, L: Ledger>(
     requires wide { 0 < ef }
     requires stands { StandsAt (N.at graph.now.nodes) layer from }
     ensures beam { IfOk result (λ beam. (passes : Attribute → Bool) → Answers (F.gives wanted.now.test) passes → IsBeam (N.at graph.now.nodes) layer from query.now ef effort passes beam.tried beam.expanded beam.found) }
+    ensures named { IfOk result (λ beam. (passes : Attribute → Bool) → Answers (F.gives wanted.now.test) passes → IsNamedBeam (N.at graph.now.nodes) graph.now.entry graph.now.m graph.now.dim layer from query.now ef effort passes beam.tried beam.expanded beam.found) }
     ensures spent { IfOk result (λ beam. IsTrue beam.spent ↔ IsSpent effort beam.tried) }
     ensures told { IfOk result (λ beam. reads.new ≤ reads.old + 1 + expansion_cost (N.at graph.now.nodes) layer beam.expanded) }
 {

@@ -143,7 +143,7 @@ fn add_numbered<N: Nodes, L: Ledger>(
 }
 
 /// A graph of so many members of 64 bits, each linked to the nearest that a beam of width 8 found.
-pub fn grown<N: FreshNodes + Drop, L: Ledger>(
+pub fn grown<N: FreshNodes, L: Ledger>(
     alloc: Global,
     count: u16,
     slot: &mut Slot,

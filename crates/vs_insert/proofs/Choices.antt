@@ -1,11 +1,11 @@
 -- The choice at each layer, and the lists of all layers, by names.
 use Rattle.std.proofs.Common.{◌≡◌, ℕ, zero, suc, ◌+◌, ◌-◌, ◌<◌, ◌≤◌, Bool, true, false, cond, leb, List, [], ◌∷◌, ◌++◌, length, map, get_or, add-one, min, refl, sym, ap, ◌∙◌, subst, arith, inl, inr}
-use Rattle.std.specs.Prelude.{Some, None, IsSome, IsSomeAnd, IfSome, nat_eq, nat_lt, option_map, unwrap_or, slice_get, slice_index, reverse, replicate, MatchOption, All}
+use Rattle.std.specs.Prelude.{Some, None, IsSome, IsSomeAnd, IfSome, nat_eq, option_map, unwrap_or, slice_get, slice_index, reverse, replicate, MatchOption, All}
 use Rattle.std.specs.List.{IsDistinct}
 use Rattle.std.specs.Option.{option_map_or}
 use Rattle.std.specs.declared.option.Option.{Option}
-use Rattle.std.proofs.Math.Nat.{min-eq_left, min-eq_right, min-le_left, min-le_right}
-use Rattle.std.proofs.lemmas.Bool.{cases_lt, leb-true, ltb-false, both_ways}
+use Rattle.std.proofs.Math.Nat.{min-eq_left, min-eq_right, min-le_left}
+use Rattle.std.proofs.lemmas.Bool.{cases_lt, leb-true}
 use Rattle.std.proofs.lemmas.Option.{none-some, same_Some}
 use Rattle.std.proofs.lemmas.List.{length-map, length-append, append-nil, map-append, append_assoc, reverse-append, reverse-reverse, length-reverse, length-replicate, replicate-append-replicate}
 use Rattle.vs_bits.proofs.Distances.{words_ham-same}
@@ -30,11 +30,11 @@ use Rattle.vs_link.proofs.Chosen.{chosen_all, chosen_few, chosen_once}
 use Rattle.vs_beam.specs.Beam.{key_at, ranked, IsBeam, IsDescent}
 use Rattle.vs_beam.specs.Named.{keys_named, stops_named}
 use Rattle.vs_beam.proofs.Descents.{stands_below}
-use Rattle.vs_beam.proofs.Sets.{beam_is_defined, descent_is_defined}
+use Rattle.vs_beam.proofs.Sets.{beam_is, named_descent}
 use Rattle.vs_insert.specs.declared.draft.Chosen.{Chosen}
-use Rattle.vs_insert.specs.Drafts.{ids_of, names_of, chosen_at, names_down, AreChoices}
+use Rattle.vs_insert.specs.Drafts.{ids_of, names_of, chosen_at, names_down, AreChoices, AreOwnChoices, HaveBodies}
 use Rattle.vs_insert.specs.Joined.{layers_below}
-use Rattle.vs_insert.specs.Added.{AreDrafted}
+use Rattle.vs_insert.specs.Added.{AreDrafted, AreOwnDrafted}
 use Rattle.vs_insert.specs.Choosing.{everyone, IsLayerChosen, AreChosenFrom, drafted_by}
 use Rattle.vs_insert.proofs.Found.{found_stand, found_keys, found_once}
 use Rattle.vs_insert.proofs.Stepping.{names_chosen}
@@ -48,16 +48,20 @@ from_ids P [] h k d less = absurd (omega arith)
 from_ids P (c ∷ cs) h zero d less = h 0 0 (omega arith)
 from_ids P (c ∷ cs) h (suc k) d less = from_ids P cs (λ i e short. h (suc i) e (omega (arith, short))) k d (omega (arith, less))
 
+name_there : (bodies : Bodies) (c : Chosen) → bodies c.id ≡ Some c.body → option_map_or (λ body. body.name) (bodies c.id) [] ≡ c.body.name
+name_there bodies c e = ap (λ o. option_map_or (λ body. body.name) o []) e
+
 pub choices_are : (at : ℕ → Option Node) (m layer start ef : ℕ) (query tried expanded : List ℕ) (found : List Key) (bodies : Bodies) (list : List Chosen) (ids : List ℕ) → IsBeam at layer start query ef 0 everyone tried expanded found
-    → ids ≡ selected bodies m found → ids_of list ≡ ids → All (λ (c : Chosen). body_at at c.id ≡ Some c.body) list → AreChoices at m layer list
+    → ids ≡ selected bodies m found → ids_of list ≡ ids → HaveBodies at list → AreOwnChoices at m layer list
 choices_are at m layer start ef query tried expanded found bodies list ids beam made same with_bodies =
     let is : ids_of list ≡ selected bodies m found = same ∙ made in
-    record {
+    let choices : AreChoices at m layer list = record {
       stand = from_ids (StandsAt at layer) list (subst (λ l. All (StandsAt at layer) l) (sym is) (chosen_all (StandsAt at layer) bodies m [] found (found_stand at layer start ef query tried expanded found beam)));
-      bodies = with_bodies;
+      names = λ k d h. name_there (body_at at) (get_or list k d) (with_bodies k d h);
       once = subst (IsDistinct nat_eq) (sym is) (chosen_once bodies m [] found (found_once at layer start ef query tried expanded found beam));
       few = subst (λ n. n ≤ m) (ap length (sym is) ∙ length-map list (λ (c : Chosen). c.id)) (omega (arith, chosen_few bodies m [] found (omega arith)));
-    }
+    } in
+    record { choices = choices; bodies = with_bodies }
 
 words_same : (o : Option Node) → option_map_or (λ n. n.body.bits) o [] ≡ option_map_or (λ body. body.bits) (option_map (λ n. n.body) o) []
 words_same None = refl
@@ -94,8 +98,8 @@ module _ (at : ℕ → Option Node) (entry : Option ℕ) (m dim : ℕ) (good : I
     chooses_more cut ids are cs rest = (
       keys_named at (ranked at query made.tried),
       keys_named at made.found,
-      beam_is_defined at entry m dim cut ids query layer from ef 0 everyone pass_all made.tried made.expanded made.found good are fits (λ name x e. refl) made.beam,
-      sym (names_chosen at list made.choices.bodies) ∙ made.named dim ids (bits_of_words dim query) good.links are (dists_named ids are),
+      beam_is at entry m dim cut ids query everyone pass_all good are fits (λ name x e. refl) layer from ef 0 made.tried made.expanded made.found made.beam,
+      sym (names_chosen at list made.choices.choices.names) ∙ made.named dim ids (bits_of_words dim query) good.links are (dists_named ids are),
       subst (λ o. MatchOption o ⊥ (λ n. ChoosesFrom (set_of at entry m dim cut ids) (bits_of_words dim query) ef n (layers_below layer) cs)) (sym (first_named at made.found next made.nearest)) rest,
     )
 
@@ -104,21 +108,23 @@ module _ (at : ℕ → Option Node) (entry : Option ℕ) (m dim : ℕ) (good : I
 reverse_push : {X : Type 0} (xs : List X) (x : X) → reverse (xs ++ x ∷ []) ≡ x ∷ reverse xs
 reverse_push xs x = reverse-append xs (x ∷ [])
 
-pub no_choices : (at : ℕ → Option Node) (m layer : ℕ) → AreChoices at m layer []
-no_choices at m layer = record {
-  stand = λ k d less. absurd (omega (arith, less));
-  bodies = λ k d less. absurd (omega (arith, less));
-  once = distinct_none;
-  few = omega arith;
-}
+pub no_choices : (at : ℕ → Option Node) (m layer : ℕ) → AreOwnChoices at m layer []
+no_choices at m layer =
+    let choices : AreChoices at m layer [] = record {
+      stand = λ k d less. absurd (omega (arith, less));
+      names = λ k d less. absurd (omega (arith, less));
+      once = distinct_none;
+      few = omega arith;
+    } in
+    record { choices = choices; bodies = λ k d less. absurd (omega (arith, less)) }
 
-pub choices_more : (at : ℕ → Option Node) (m layer : ℕ) (lists : List (List Chosen)) (list : List Chosen) → AreChoices at m layer list → ((k : ℕ) → AreChoices at m (suc layer + k) (chosen_at (reverse lists) k))
-    → (k : ℕ) → AreChoices at m (layer + k) (chosen_at (reverse (lists ++ list ∷ [])) k)
+pub choices_more : (at : ℕ → Option Node) (m layer : ℕ) (lists : List (List Chosen)) (list : List Chosen) → AreOwnChoices at m layer list → ((k : ℕ) → AreOwnChoices at m (suc layer + k) (chosen_at (reverse lists) k))
+    → (k : ℕ) → AreOwnChoices at m (layer + k) (chosen_at (reverse (lists ++ list ∷ [])) k)
 choices_more at m layer lists list one others k =
-    subst (λ l. AreChoices at m (layer + k) (chosen_at l k)) (sym (reverse_push lists list)) (by_place k) where
-      by_place : (k : ℕ) → AreChoices at m (layer + k) (chosen_at (list ∷ reverse lists) k)
-      by_place zero = subst (λ l. AreChoices at m l list) (omega arith) one
-      by_place (suc k) = subst (λ l. AreChoices at m l (chosen_at (reverse lists) k)) (omega arith) (others k)
+    subst (λ l. AreOwnChoices at m (layer + k) (chosen_at l k)) (sym (reverse_push lists list)) (by_place k) where
+      by_place : (k : ℕ) → AreOwnChoices at m (layer + k) (chosen_at (list ∷ reverse lists) k)
+      by_place zero = subst (λ l. AreOwnChoices at m l list) (omega arith) one
+      by_place (suc k) = subst (λ l. AreOwnChoices at m l (chosen_at (reverse lists) k)) (omega arith) (others k)
 
 -- ---- the draft
 
@@ -155,34 +161,19 @@ no_layers : (top low : ℕ) → top < low → layers_down top low ≡ []
 no_layers zero low h = no_layers_by (leb low 0) 0 low (0 ∷ []) refl h
 no_layers (suc high) low h = no_layers_by (leb low (suc high)) (suc high) low (suc high ∷ layers_down high low) refl h
 
--- the stop of a descent to the layer above stands at each layer below
-start_by : (at : ℕ → Option Node) (e level start top : ℕ) (query stops : List ℕ) → IsSome (at e) → IsDescent at e query (level + 1) start top stops → (b : Bool) → nat_lt top (level + 1) ≡ b → start ≡ cond b e (slice_index stops (level + 1))
-    → (layer : ℕ) → layer < min level top + 1 → StandsAt at layer start
-start_by at e level start top query stops some d true is last layer low =
-    subst (λ k. StandsAt at layer k) (sym last) (of_level (at e) some (omega (arith, low, min-le_right level top, d.level))) where
-      of_level : (o : Option Node) → IsSome o → layer ≤ option_map_or (λ n. n.level) o 0 → IsSomeAnd o (λ n. layer ≤ n.level)
-      of_level None h less = absurd (both_ways false refl h)
-      of_level (Some n) h less = less
-start_by at e level start top query stops some d false is last layer low =
-    subst (λ k. StandsAt at layer k) (sym last)
-    (stands_below at (slice_index stops (level + 1)) layer (level + 1) (omega (arith, low, min-le_left level top)) (d.stop (level + 1) (omega arith) (omega (arith, ltb-false top (level + 1) is))).stands)
-
-pub start_stands : (at : ℕ → Option Node) (e level start top : ℕ) (query stops : List ℕ) → IsSome (at e) → IsDescent at e query (level + 1) start top stops → (layer : ℕ) → layer < min level top + 1 → StandsAt at layer start
-start_stands at e level start top query stops some d = start_by at e level start top query stops some d (nat_lt top (level + 1)) refl d.last
-
 module _ (at : ℕ → Option Node) (m dim level ef : ℕ) (query : List ℕ) (fits : FitsDimension dim query) (lists : List (List Chosen)) where
-  pub as_drafted : (count : ℕ) → length lists ≡ count → count ≤ level + 1 → ((layer : ℕ) → AreChoices at m layer (chosen_at (reverse lists) layer))
-      → AreDrafted at m level (reverse lists ++ replicate (level + 1 - length lists) [])
+  pub as_drafted : (count : ℕ) → length lists ≡ count → count ≤ level + 1 → ((layer : ℕ) → AreOwnChoices at m layer (chosen_at (reverse lists) layer))
+      → AreOwnDrafted at m level (reverse lists ++ replicate (level + 1 - length lists) [])
   as_drafted count long few are = record {
     layers = length-append (reverse lists) (replicate (level + 1 - length lists) []) ∙ omega (arith, length-reverse lists, length-replicate {A = List Chosen} (level + 1 - length lists) [], long, few);
-    lists = λ layer. subst (AreChoices at m layer) (sym (fill_at (reverse lists) (level + 1 - length lists) layer)) (are layer);
+    lists = λ layer. subst (AreOwnChoices at m layer) (sym (fill_at (reverse lists) (level + 1 - length lists) layer)) (are layer);
   }
 
   -- in an empty graph there is nobody to choose
-  pub drafted_none : lists ≡ [] → AreDrafted at m level (reverse lists ++ replicate (level + 1 - length lists) [])
+  pub drafted_none : lists ≡ [] → AreOwnDrafted at m level (reverse lists ++ replicate (level + 1 - length lists) [])
   drafted_none none =
-      as_drafted 0 (ap length none) (omega arith) (λ layer. subst (λ (l : List (List Chosen)). AreChoices at m layer (chosen_at (reverse l) layer)) (sym none) (no_choices_at layer)) where
-        no_choices_at : (layer : ℕ) → AreChoices at m layer (chosen_at [] layer)
+      as_drafted 0 (ap length none) (omega arith) (λ layer. subst (λ (l : List (List Chosen)). AreOwnChoices at m layer (chosen_at (reverse l) layer)) (sym none) (no_choices_at layer)) where
+        no_choices_at : (layer : ℕ) → AreOwnChoices at m layer (chosen_at [] layer)
         no_choices_at zero = no_choices at m 0
         no_choices_at (suc layer) = no_choices at m (suc layer)
 
@@ -206,7 +197,7 @@ module _ (at : ℕ → Option Node) (m dim level ef : ℕ) (query : List ℕ) (f
 
     stops_are : (cut : ℕ) (ids : List ℕ) → AreIds at ids → beams.IsDescent (here cut ids) (bits_of_words dim query) (min level top + 1) (stops_named at top (level + 1) stops)
     stops_are cut ids are_ids =
-        let named = descent_is_defined at e m dim cut ids query (level + 1) start top stops good are_ids fits (omega arith) d in
+        let named = named_descent at e m dim query (level + 1) start top stops good fits (omega arith) d in
         elim (cases_lt top level) [
           | inl above ↦
               let le : top ≤ level = omega (arith, above) in
@@ -219,7 +210,7 @@ module _ (at : ℕ → Option Node) (m dim level ef : ℕ) (query : List ℕ) (f
           | inr below ↦
               let le : level ≤ top = omega (arith, below) in
               let least : min level top ≡ level = min-eq_left le in
-              subst (λ l. beams.IsDescent (here cut ids) (bits_of_words dim query) (l + 1) (stops_named at top (level + 1) stops)) (sym least) named.0
+              subst (λ l. beams.IsDescent (here cut ids) (bits_of_words dim query) (l + 1) (stops_named at top (level + 1) stops)) (sym least) (named.descends cut ids are_ids)
         ]
 
     spare_is : level + 1 - length lists ≡ level - top
@@ -228,17 +219,17 @@ module _ (at : ℕ → Option Node) (m dim level ef : ℕ) (query : List ℕ) (f
       | inr below ↦ (let le : level ≤ top = omega (arith, below) in let least : min level top ≡ level = min-eq_left le in omega (arith, are.long, below, least))
     ]
 
-    pub drafted_some : AreDrafted at m level (reverse lists ++ replicate (level + 1 - length lists) [])
+    pub drafted_some : AreOwnDrafted at m level (reverse lists ++ replicate (level + 1 - length lists) [])
     drafted_some = as_drafted (min level top + 1) are.long (omega (arith, min-le_left level top)) are.choices
 
     pub chosen_some : (cut : ℕ) (ids : List ℕ) → AreIds at ids → IsChosen (here cut ids) (bits_of_words dim query) level ef (names_down (reverse lists ++ replicate (level + 1 - length lists) []))
     chosen_some cut ids are_ids =
-        let named = descent_is_defined at e m dim cut ids query (level + 1) start top stops good are_ids fits (omega arith) d in
+        let named = named_descent at e m dim query (level + 1) start top stops good fits (omega arith) d in
         subst (λ t. IsChosenBelow (here cut ids) (bits_of_words dim query) level t ef (names_down (reverse lists ++ replicate (level + 1 - length lists) []))) (sym (top_named cut ids are_ids)) (
           stops_named at top (level + 1) stops,
           map names_of lists,
           stops_are cut ids are_ids,
-          subst (λ o. MatchOption o ⊥ (λ s. ChoosesFrom (here cut ids) (bits_of_words dim query) ef s (layers_down (min level top) 0) (map names_of lists))) (sym named.1)
+          subst (λ o. MatchOption o ⊥ (λ s. ChoosesFrom (here cut ids) (bits_of_words dim query) ef s (layers_down (min level top) 0) (map names_of lists))) (sym (named.starts cut ids are_ids))
               (subst (λ ls. ChoosesFrom (here cut ids) (bits_of_words dim query) ef (name_of at start) ls (map names_of lists)) (ap layers_below (add-one (min level top)) ∙ sym (layers_are (min level top))) (are.named cut ids are_ids)),
           filled_down lists (level + 1 - length lists) ∙ ap (λ n. replicate n [] ++ map names_of lists) spare_is,
         )
@@ -267,8 +258,8 @@ pub chosen_live : (base at : ℕ → Option Node) (layer m : ℕ) (bodies : Bodi
 chosen_live base at layer m bodies shown found ids e g made stand =
     subst (λ l. All (λ id. IsSome (base id)) l) (sym made) (chosen_all (λ id. IsSome (base id)) bodies m [] shown (keys_live base at layer shown found e g stand))
 
-pub bodies_over : (base at : ℕ → Option Node) (list : List Chosen) → base ≡ at → All (λ (c : Chosen). body_at base c.id ≡ Some c.body) list → All (λ (c : Chosen). body_at at c.id ≡ Some c.body) list
-bodies_over base at list e h = subst (λ a. All (λ (c : Chosen). body_at a c.id ≡ Some c.body) list) e h
+pub bodies_over : (base at : ℕ → Option Node) (list : List Chosen) → base ≡ at → HaveBodies base list → HaveBodies at list
+bodies_over base at list e h = subst (λ a. HaveBodies a list) e h
 
 -- the first of what was found
 abbrev pub NearestIs : List Key → ℕ → Type 0
@@ -278,7 +269,7 @@ pub nearest_stands : (at : ℕ → Option Node) (layer next : ℕ) (found : List
 nearest_stands at layer next [] e stand = absurd (none-some next e)
 nearest_stands at layer next (key ∷ keys) e stand = subst (λ k. StandsAt at layer k) (same_Some key.id next e) (stand 0 key (omega arith))
 
-no_choices_at : (at : ℕ → Option Node) (m layer k : ℕ) → AreChoices at m layer (chosen_at [] k)
+no_choices_at : (at : ℕ → Option Node) (m layer k : ℕ) → AreOwnChoices at m layer (chosen_at [] k)
 no_choices_at at m layer zero = no_choices at m layer
 no_choices_at at m layer (suc k) = no_choices at m layer
 
@@ -287,7 +278,7 @@ module _ (at : ℕ → Option Node) (entry : Option ℕ) (m dim start count ef :
   pub record AreChosenDownTo (layer here : ℕ) (lists : List (List Chosen)) : Type 0 where
     pub long : length lists + layer ≡ count
     pub stands : (l : ℕ) → l < layer → StandsAt at l here
-    pub choices : (k : ℕ) → AreChoices at m (layer + k) (chosen_at (reverse lists) k)
+    pub choices : (k : ℕ) → AreOwnChoices at m (layer + k) (chosen_at (reverse lists) k)
     pub named : (cut : ℕ) (ids : List ℕ) → AreIds at ids → (cs : List (List Bytes)) → ChoosesFrom (set_of at entry m dim cut ids) (bits_of_words dim query) ef (name_of at here) (layers_below layer) cs
         → ChoosesFrom (set_of at entry m dim cut ids) (bits_of_words dim query) ef (name_of at start) (layers_below count) (map names_of lists ++ cs)
 
@@ -306,7 +297,7 @@ module _ (at : ℕ → Option Node) (entry : Option ℕ) (m dim start count ef :
       subst (AreChosenDownTo n next) (sym pushed) (record {
         long = omega (arith, length-append lists (list ∷ []), old.long, is);
         stands = λ l h. stands_below at next l n (omega (arith, h)) made.stands;
-        choices = choices_more at m n lists list made.choices (subst (λ k. (i : ℕ) → AreChoices at m (k + i) (chosen_at (reverse lists) i)) is old.choices);
+        choices = choices_more at m n lists list made.choices (subst (λ k. (i : ℕ) → AreOwnChoices at m (k + i) (chosen_at (reverse lists) i)) is old.choices);
         named = λ cut ids are cs h.
             subst (λ l. ChoosesFrom (set_of at entry m dim cut ids) (bits_of_words dim query) ef (name_of at start) (layers_below count) l) (joins cs)
             (old.named cut ids are (names_of list ∷ cs)
@@ -321,9 +312,17 @@ module _ (at : ℕ → Option Node) (entry : Option ℕ) (m dim start count ef :
       let done : AreChosenDownTo 0 here lists = subst (λ k. AreChosenDownTo k here lists) is old in
       record {
         long = omega (arith, done.long);
-        choices = λ k. subst (λ l. AreChoices at m l (chosen_at (reverse lists) k)) (omega arith) (done.choices k);
+        choices = λ k. subst (λ l. AreOwnChoices at m l (chosen_at (reverse lists) k)) (omega arith) (done.choices k);
         named = λ cut ids are. subst (λ l. ChoosesFrom (set_of at entry m dim cut ids) (bits_of_words dim query) ef (name_of at start) (layers_below count) l) (append-nil (map names_of lists)) (done.named cut ids are [] tt);
       }
+
+-- ---- a draft's lists
+
+pub own_drafted : (at : ℕ → Option Node) (m level : ℕ) (chosen : List (List Chosen)) → AreOwnDrafted at m level chosen → AreDrafted at m level chosen
+own_drafted at m level chosen own = record { layers = own.layers; lists = λ layer. (own.lists layer).choices }
+
+pub own_bodies : (at : ℕ → Option Node) (m level : ℕ) (chosen : List (List Chosen)) → AreOwnDrafted at m level chosen → (layer : ℕ) → HaveBodies at (chosen_at chosen layer)
+own_bodies at m level chosen own layer = (own.lists layer).bodies
 
 -- ---- after a descent
 
@@ -332,12 +331,8 @@ entry_none at None limit top low none = refl
 entry_none at (Some e) limit top low none = absurd (omega (arith, none, low e (some_of (at e) _ top)))
 
 module _ (at : ℕ → Option Node) (m dim level start top ef : ℕ) (query stops : List ℕ) (fits : FitsDimension dim query) where
-  pub descent_stands : (entry : Option ℕ) → IsEntry at entry → IsSomeAnd entry (λ e. IsDescent at e query (level + 1) start top stops) → (layer : ℕ) → layer < min level top + 1 → StandsAt at layer start
-  descent_stands None is d layer h = absurd d
-  descent_stands (Some e) is d layer h = start_stands at e level start top query stops (some_of (at e) _ is) d layer h
-
   pub lists_drafted : (entry : Option ℕ) (lists : List (List Chosen)) → IsGood at entry m dim → IsSomeAnd entry (λ e. IsDescent at e query (level + 1) start top stops) → AreChosenFrom at entry m dim start (min level top + 1) ef query lists
-      → AreDrafted at m level (drafted_by level lists)
+      → AreOwnDrafted at m level (drafted_by level lists)
   lists_drafted None lists good d are = absurd d
   lists_drafted (Some e) lists good d are = drafted_some at m dim level ef query fits lists e start top stops good d are
 

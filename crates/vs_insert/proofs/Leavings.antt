@@ -11,7 +11,7 @@ use Rattle.vs_graph.specs.Named.{is_live}
 use Rattle.vs_graph.specs.Table.{without}
 use Rattle.vs_graph.specs.Standing.{AreIds, members_of, name_of}
 use Rattle.vs_graph.proofs.Lists.{has_without, distinct_without}
-use Rattle.vs_insert.specs.Rejoined.{IsWithout}
+use Rattle.vs_unlink.specs.Unlinked.{IsWithout}
 use Rattle.vs_unlink.proofs.Layers.{body_bare}
 use Rattle.vs_unlink.proofs.Leavings as leavings
 use Rattle.vs_insert.proofs.Bare.{live_bare}

@@ -11,3 +11,4 @@ pub mod Heights
 pub mod Orphans
 pub mod Leavings
 pub mod Rejoining
+pub mod Staying

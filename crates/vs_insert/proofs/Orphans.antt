@@ -26,10 +26,11 @@ use Rattle.vs_link.specs.Selected.{is_choice, selected_behind, selected}
 use Rattle.vs_link.proofs.Chosen.{chosen_all, chosen_few, chosen_once}
 use Rattle.vs_beam.specs.Beam.{ranked, IsBeam}
 use Rattle.vs_beam.proofs.Steps.{has_first}
-use Rattle.vs_unlink.specs.Unlinked.{bare}
+use Rattle.vs_unlink.specs.Unlinked.{IsWithout}
+use Rattle.vs_unlink.proofs.Remaining.{some_node, stands_yet}
 use Rattle.vs_insert.specs.Choosing.{everyone}
 use Rattle.vs_insert.specs.Height.{height}
-use Rattle.vs_insert.specs.Rejoined.{IsWithout, HasAnother, others_of, IsStart, IsOrphansChoice, IsRejoined}
+use Rattle.vs_insert.specs.Rejoined.{HasAnother, others_of, IsStart, IsOrphansChoice, IsRejoined}
 use Rattle.vs_unlink.proofs.Reordered.{distinct_filter}
 use Rattle.vs_insert.proofs.Bare.{live_bare}
 use Rattle.vs_insert.proofs.Found.{found_is, found_stand, found_once, ranked_ids, ranked_long}
@@ -85,32 +86,7 @@ one_of_three p x y (a ∷ b ∷ c ∷ keys) only d long = by_tests (p a) (p b) (
   by_tests false false true e f g = (c, inr (inr (inl refl)), g)
   by_tests false false false e f g = absurd (none (only a (inl refl) e) (only b (inr (inl refl)) f) (only c (inr (inr (inl refl))) g))
 
-bare_stands : (layer : ℕ) (o : Option Node) → IsSomeAnd o (λ node. layer ≤ node.level) → IsSomeAnd (bare o) (λ node. layer ≤ node.level)
-bare_stands layer None h = h
-bare_stands layer (Some node) h = h
-
-stands_bare : (layer : ℕ) (o : Option Node) → IsSomeAnd (bare o) (λ node. layer ≤ node.level) → IsSomeAnd o (λ node. layer ≤ node.level)
-stands_bare layer None h = h
-stands_bare layer (Some node) h = h
-
-pub some_node : (layer : ℕ) (o : Option Node) → IsSomeAnd o (λ n. layer ≤ n.level) → is_some o ≡ true
-some_node layer None h = absurd h
-some_node layer (Some n) h = refl
-
-no_node : (layer : ℕ) (o : Option Node) → o ≡ None → IsSomeAnd o (λ n. layer ≤ n.level) → ⊥
-no_node layer None e h = h
-no_node layer (Some n) e h = both_ways (is_some (Some n)) (ap is_some e) refl
-
 module _ (at now : ℕ → Option Node) (x : ℕ) (gone : IsWithout at now x) where
-  pub not_x : (layer q : ℕ) → StandsAt now layer q → q ≢ x
-  not_x layer q h is = no_node layer (now q) (ap now is ∙ gone.gone) h
-
-  pub stood : (layer q : ℕ) → StandsAt now layer q → StandsAt at layer q
-  stood layer q h = stands_bare layer (at q) (subst (λ o. IsSomeAnd o (λ node. layer ≤ node.level)) (gone.others q (not_x layer q h)) (bare_stands layer (now q) h))
-
-  pub stands_yet : (layer q : ℕ) → q ≢ x → StandsAt at layer q → StandsAt now layer q
-  stands_yet layer q ne h = stands_bare layer (now q) (subst (λ o. IsSomeAnd o (λ node. layer ≤ node.level)) (sym (gone.others q ne)) (bare_stands layer (at q) h))
-
   live_only : (q : ℕ) → q ≢ x → is_some (now q) ≡ is_some (at q)
   live_only q ne = sym (live_bare (now q)) ∙ ap is_some (gone.others q ne) ∙ live_bare (at q)
 

@@ -31,14 +31,16 @@ use Rattle.vs_link.proofs.Chosen.{behind_named}
 use Rattle.vs_graph.proofs.Standing.{are_members}
 use Rattle.vs_beam.specs.Beam.{key_at, ranked}
 use Rattle.vs_beam.specs.Named.{keys_named}
-use Rattle.vs_beam.proofs.Sets.{beam_is_defined}
+use Rattle.vs_beam.proofs.Sets.{beam_is}
 use Rattle.vs_insert.specs.Choosing.{everyone}
-use Rattle.vs_insert.specs.Rejoined.{IsWithout, IsRejoined, HasAnother, others_of}
+use Rattle.vs_unlink.specs.Unlinked.{IsWithout}
+use Rattle.vs_insert.specs.Rejoined.{IsRejoined, HasAnother, others_of}
 use Rattle.vs_insert.proofs.Choices.{dist_named}
 use Rattle.vs_insert.proofs.Found.{found_stand, found_keys}
 use Rattle.vs_insert.proofs.Heights.{highest_named}
 use Rattle.vs_insert.proofs.Leavings.{ids_left, name_left, members_left}
-use Rattle.vs_insert.proofs.Orphans.{some_node, stood, in_all, all_in, start_may, stands_yet, not_x, was_live}
+use Rattle.vs_unlink.proofs.Remaining.{some_node, stood, stands_yet, not_x}
+use Rattle.vs_insert.proofs.Orphans.{in_all, all_in, start_may, was_live}
 
 fits_of : (layer m dim : ℕ) (o : Option Node) → IsSomeAnd o (λ n. layer ≤ n.level) → IfSome o (IsGoodNode m dim) → FitsDimension dim (option_map_or (λ body. body.bits) (option_map (λ n. n.body) o) [])
 fits_of layer m dim None h g = absurd h
@@ -180,6 +182,6 @@ module _ (at now new : ℕ → Option Node) (top : Option ℕ) (m dim entry laye
     tried = keys_named at (ranked at (words_at (body_at now) y) made.choice.tried);
     found = keys_named at made.choice.found;
     beam = subst (λ q. beams.IsBeam (set_of at top m dim cut ids) q layer (name_of at made.choice.start) 200 0 pass_all (keys_named at (ranked at (words_at (body_at now) y) made.choice.tried)) (keys_named at made.choice.found)) (sym bits_are)
-        (beam_is_defined at top m dim cut ids (words_at (body_at now) y) layer made.choice.start 200 0 everyone pass_all made.choice.tried made.choice.expanded made.choice.found good are fits (λ name z e. refl) made.choice.beam);
+        (beam_is at top m dim cut ids (words_at (body_at now) y) everyone pass_all good are fits (λ name z e. refl) layer made.choice.start 200 0 made.choice.tried made.choice.expanded made.choice.found made.choice.beam);
     links_are = links_named;
   }

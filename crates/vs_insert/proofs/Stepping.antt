@@ -14,8 +14,7 @@ use Rattle.vs_defs.specs.Links.{Links, neighbours, another_stands}
 use Rattle.vs_defs.specs.Linking as rules
 use Rattle.vs_defs.specs.Insertion.{SameLinks, linked_along}
 use Rattle.vs_graph.specs.declared.node.Node.{Node}
-use Rattle.vs_graph.specs.declared.node.Body.{Body}
-use Rattle.vs_graph.specs.Good.{body_at, links_at, StandsAt, AreLinksGood}
+use Rattle.vs_graph.specs.Good.{links_at, StandsAt, AreLinksGood}
 use Rattle.vs_graph.specs.GoodTable.{KeepsLinked}
 use Rattle.vs_graph.specs.Standing.{AreIds, member_of_node, member_at, members_of, name_of, named_links}
 use Rattle.vs_graph.proofs.Goods.{links_elsewhere}
@@ -39,14 +38,9 @@ names_next xs n h = ap (λ l. map names_of (reverse l)) (take_next xs n h) ∙ a
 
 -- ---- names of those that were chosen
 
-name_there : (bodies : ℕ → Option Body) (c : Chosen) → bodies c.id ≡ Some c.body → option_map_or (λ body. body.name) (bodies c.id) [] ≡ c.body.name
-name_there bodies c e = ap (λ o. option_map_or (λ body. body.name) o []) e
-
-pub names_chosen : (at : ℕ → Option Node) (list : List Chosen) → All (λ (c : Chosen). body_at at c.id ≡ Some c.body) list → map (name_of at) (ids_of list) ≡ names_of list
+pub names_chosen : (at : ℕ → Option Node) (list : List Chosen) → All (λ (c : Chosen). name_of at c.id ≡ c.body.name) list → map (name_of at) (ids_of list) ≡ names_of list
 names_chosen at [] h = refl
-names_chosen at (c ∷ cs) h =
-    ap (λ n. n ∷ map (name_of at) (ids_of cs)) (name_there (body_at at) c (h 0 c (omega arith)))
-    ∙ ap (λ l. c.body.name ∷ l) (names_chosen at cs (λ i d less. h (suc i) d (omega arith)))
+names_chosen at (c ∷ cs) h = ap (λ n. n ∷ map (name_of at) (ids_of cs)) (h 0 c (omega arith)) ∙ ap (λ l. c.body.name ∷ l) (names_chosen at cs (λ i d less. h (suc i) d (omega arith)))
 
 -- ---- where nobody else stands, the fallback is not looked at
 
@@ -95,7 +89,7 @@ FallsBack at x entry fallback layer = (fallback ≡ entry) ⊎ ((y : ℕ) → y 
 
 module _ (at now new : ℕ → Option Node) (m x : ℕ) (entry fallback : Option ℕ) (chosen : List (List Chosen)) (n : ℕ) (within : n < length chosen)
     (j : IsJoinedFrom at now m x entry chosen (suc n)) (step : IsLayerJoined now new m x n (chosen_at chosen n) fallback) (falls : FallsBack at x entry fallback n)
-    (bodies : All (λ (c : Chosen). body_at at c.id ≡ Some c.body) (chosen_at chosen n)) where
+    (named : All (λ (c : Chosen). name_of at c.id ≡ c.body.name) (chosen_at chosen n)) where
   elsewhere : (l : ℕ) → l ≢ n → links_at new l ≡ links_at now l
   elsewhere l ne = fun_ext (λ id. links_elsewhere now new n l step.table step.relinks ne id)
 
@@ -121,7 +115,7 @@ module _ (at now new : ℕ → Option Node) (m x : ℕ) (entry fallback : Option
       let by_fallback : named_links new ids ≡ rules.linked m (members_of at dim ids) (named_links now ids) (name_of at x) n (names_of (chosen_at chosen n)) (option_map (name_of at) fallback) =
       made ∙ ap (λ (f : ℕ → Bytes). rules.linked m (members_of now dim ids) (named_links now ids) (f x) n (map f (ids_of (chosen_at chosen n))) (option_map f fallback)) names
       ∙ ap (λ ms. rules.linked m ms (named_links now ids) (name_of at x) n (map (name_of at) (ids_of (chosen_at chosen n))) (option_map (name_of at) fallback)) (members_same at now j.rest dim ids)
-      ∙ ap (λ c. rules.linked m (members_of at dim ids) (named_links now ids) (name_of at x) n c (option_map (name_of at) fallback)) (names_chosen at (chosen_at chosen n) bodies) in
+      ∙ ap (λ c. rules.linked m (members_of at dim ids) (named_links now ids) (name_of at x) n c (option_map (name_of at) fallback)) (names_chosen at (chosen_at chosen n) named) in
       let to_entry : rules.linked m (members_of at dim ids) (named_links now ids) (name_of at x) n (names_of (chosen_at chosen n)) (option_map (name_of at) fallback)
       ≡ rules.linked m (members_of at dim ids) (named_links now ids) (name_of at x) n (names_of (chosen_at chosen n)) (option_map (name_of at) entry) =
       elim falls [

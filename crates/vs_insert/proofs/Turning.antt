@@ -14,7 +14,7 @@ use Rattle.vs_link.specs.Linked.{AreChosen, IsFallback}
 use Rattle.vs_insert.specs.declared.draft.Chosen.{Chosen}
 use Rattle.vs_insert.specs.Drafts.{ids_of, chosen_at, AreChoices}
 use Rattle.vs_insert.specs.Joined.{IsSharedBelow, IsJoinedFrom}
-use Rattle.vs_insert.proofs.Bare.{bodies_same, stands_on, stood}
+use Rattle.vs_insert.proofs.Bare.{names_same, stands_on, stood}
 use Rattle.vs_insert.proofs.Stepping.{FallsBack}
 
 pub are_chosen : (at : ℕ → Option Node) (m dim layer x : ℕ) (list : List Chosen) (ids : List ℕ) → ids ≡ ids_of list → AreLinksGood at m dim → AreChoices at m layer list → All (λ (c : Chosen). c.id ≢ x) list → AreChosen (layers_at at) layer m x ids
@@ -43,7 +43,7 @@ module _ (at now : ℕ → Option Node) (m x : ℕ) (entry : Option ℕ) (chosen
   pub choices_now : (list : List Chosen) → AreChoices at m n list → AreChoices now m n list
   choices_now list are = record {
     stand = λ k d h. stands_on at now j.rest n (get_or list k d).id (are.stand k d h);
-    bodies = λ k d h. ap (λ bodies. bodies (get_or list k d).id) (bodies_same at now j.rest) ∙ are.bodies k d h;
+    names = λ k d h. ap (λ names. names (get_or list k d).id) (names_same at now j.rest) ∙ are.names k d h;
     once = are.once;
     few = are.few;
   }

@@ -11,12 +11,17 @@ use Rattle.vs_beam.specs.Beam.{level_at}
 use Rattle.vs_unlink.specs.Unlinked.{bare}
 use Rattle.vs_insert.specs.declared.draft.Chosen.{Chosen}
 use Rattle.vs_insert.specs.declared.draft.Draft.{Draft}
-use Rattle.vs_insert.specs.Drafts.{AreChoices, chosen_at, names_down}
+use Rattle.vs_insert.specs.Drafts.{AreChoices, AreOwnChoices, chosen_at, names_down}
 
 -- a list for each layer of a member of the level, of those that it may be linked to in the graph
 pub record AreDrafted (at : ℕ → Option Node) (m level : ℕ) (chosen : List (List Chosen)) : Type 0 where
   pub layers : length chosen ≡ level + 1
   pub lists : (layer : ℕ) → AreChoices at m layer (chosen_at chosen layer)
+
+-- such lists as a search in this graph makes them
+pub record AreOwnDrafted (at : ℕ → Option Node) (m level : ℕ) (chosen : List (List Chosen)) : Type 0 where
+  pub layers : length chosen ≡ level + 1
+  pub lists : (layer : ℕ) → AreOwnChoices at m layer (chosen_at chosen layer)
 
 -- the new member is the entry where there was none, or where its level is greater
 abbrev pub entry_after : (ℕ → Option Node) → Option ℕ → ℕ → ℕ → Option ℕ

@@ -13,7 +13,7 @@ use Rattle.vs_rank.specs.declared.Key.{Key}
 use Rattle.vs_rank.specs.Tests.{Attribute}
 use Rattle.vs_beam.specs.Beam.{IsBeam}
 use Rattle.vs_insert.specs.declared.draft.Chosen.{Chosen}
-use Rattle.vs_insert.specs.Drafts.{ids_of, names_of, chosen_at, AreChoices}
+use Rattle.vs_insert.specs.Drafts.{ids_of, names_of, chosen_at, AreOwnChoices}
 use Rattle.vs_insert.specs.Joined.{layers_below}
 
 -- without a filter each member passes
@@ -26,7 +26,7 @@ pub record IsLayerChosen (at : ℕ → Option Node) (m layer start ef : ℕ) (qu
   pub expanded : List ℕ
   pub found : List Key
   pub beam : IsBeam at layer start query ef 0 everyone tried expanded found
-  pub choices : AreChoices at m layer list
+  pub choices : AreOwnChoices at m layer list
   pub named : (dim : ℕ) (ids : List ℕ) (q : Vector) → AreLinksGood at m dim → AreIds at ids
       → All (λ (key : Key). key.dist ≡ ham q (bits_at (members_of at dim ids) (name_of at key.id))) found
       → map (name_of at) (ids_of list) ≡ defs.selected (bits_at (members_of at dim ids)) q m (map (λ (key : Key). name_of at key.id) found)
@@ -36,7 +36,7 @@ pub record IsLayerChosen (at : ℕ → Option Node) (m layer start ef : ℕ) (qu
 -- the lists of the layers below a number, from the highest down, are chosen from a start
 pub record AreChosenFrom (at : ℕ → Option Node) (entry : Option ℕ) (m dim start count ef : ℕ) (query : List ℕ) (lists : List (List Chosen)) : Type 0 where
   pub long : length lists ≡ count
-  pub choices : (layer : ℕ) → AreChoices at m layer (chosen_at (reverse lists) layer)
+  pub choices : (layer : ℕ) → AreOwnChoices at m layer (chosen_at (reverse lists) layer)
   pub named : (cut : ℕ) (ids : List ℕ) → AreIds at ids
       → ChoosesFrom (set_of at entry m dim cut ids) (bits_of_words dim query) ef (name_of at start) (layers_below count) (map names_of lists)
 

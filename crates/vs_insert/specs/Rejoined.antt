@@ -1,5 +1,5 @@
 -- How one that a removal left alone is joined again.
-use Rattle.std.specs.Prelude.{◌≡◌, ◌≢◌, ◌<◌, ◌==◌, ℕ, not, ◌&&◌, is_some, List, length, filter, Some, None, IsSome}
+use Rattle.std.specs.Prelude.{◌≡◌, ◌≢◌, ◌<◌, ◌==◌, ℕ, not, ◌&&◌, is_some, List, length, filter, Some}
 use Rattle.std.specs.declared.option.Option.{Option}
 use Rattle.vs_defs.specs.Removal as rules
 use Rattle.vs_graph.specs.declared.node.Node.{Node}
@@ -13,15 +13,9 @@ use Rattle.vs_rank.specs.declared.Key.{Key}
 use Rattle.vs_link.specs.Linked.{linked, AreChosen}
 use Rattle.vs_link.specs.Selected.{selected}
 use Rattle.vs_beam.specs.Beam.{IsBeam}
-use Rattle.vs_unlink.specs.Unlinked.{bare}
+use Rattle.vs_unlink.specs.Unlinked.{IsWithout}
 use Rattle.vs_insert.specs.Choosing.{everyone}
 use Rattle.vs_insert.specs.Height.{IsHighestBelow}
-
--- the graph without x, whose other nodes are as they were but for links
-pub record IsWithout (at now : ℕ → Option Node) (x : ℕ) : Type 0 where
-  pub was : IsSome (at x)
-  pub gone : now x ≡ None
-  pub others : (q : ℕ) → q ≢ x → bare (now q) ≡ bare (at q)
 
 -- another than the orphan stands at its layer
 abbrev pub HasAnother : (ℕ → Option Node) → ℕ → ℕ → Type 0

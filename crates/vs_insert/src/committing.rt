@@ -66,7 +66,7 @@ fn addition<N: Nodes, L: Ledger>(
 }
 
 /// Adds a draft's member: at each of its layers it is linked to those that the draft chose, in the graph as it is now, which may have
-/// changed since the draft was made. Where its level is greater than the entry's, it becomes the entry. It makes no search, and publishes
+/// changed since the draft was made: of a chosen one its name counts, and that it stands at the layer. Where its level is greater than the entry's, it becomes the entry. It makes no search, and publishes
 /// once; after a refusal the graph is as it was.
 pub fn commit<N: Nodes, L: Ledger>(
     alloc: Global,

@@ -2,7 +2,7 @@ ghost use Rattle.std.specs.Prelude.{◌≡◌, ◌<◌, ◌≤◌, ◌+◌, ℕ,
 ghost use Rattle.vs_defs.specs.Words.{FitsDimension, bits_of_words};
 ghost use Rattle.vs_defs.specs.Insertion.{IsChosen};
 ghost use Rattle.vs_graph.specs.Standing.{AreIds, set_of};
-ghost use Rattle.vs_insert.specs.Drafts.{names_down};
+ghost use Rattle.vs_insert.specs.Drafts.{chosen_at, names_down, HaveBodies};
 ghost use Rattle.vs_insert.specs.Added.{AreDrafted};
 ghost use Rattle.vs_rank.specs.Tests.{Answers};
 ghost use mathlib.Core.HProp.{IsProp-prop};
@@ -37,6 +37,7 @@ fn chosen_lists<N: Nodes, F: Testing + Drop, L: Ledger>(
     requires everyone { Answers (F.gives test) everyone }
     ensures long { IfOk result (λ lists. length lists.items ≤ level + 1) }
     ensures drafted { IfOk result (λ lists. AreDrafted (N.at graph.now.nodes) graph.now.m level (drafted_by level lists.items)) }
+    ensures bodies { IfOk result (λ lists. (layer : ℕ) → HaveBodies (N.at graph.now.nodes) (chosen_at (drafted_by level lists.items) layer)) }
     ensures chosen { IfOk result (λ lists. (cut : ℕ) (ids : Items ℕ) → AreIds (N.at graph.now.nodes) ids
         → IsChosen (set_of (N.at graph.now.nodes) graph.now.entry graph.now.m graph.now.dim cut ids) (bits_of_words graph.now.dim query.now) level ef (names_down (drafted_by level lists.items))) }
 {
@@ -61,7 +62,7 @@ fn chosen_lists<N: Nodes, F: Testing + Drop, L: Ledger>(
 }
 
 /// Chooses whom a new member is to be linked to, by a descent to the layer above its own and a beam of width `ef` at each layer below. The
-/// graph may be a snapshot: a later commit needs no search. Above the entry's level the lists are empty. The slot is emptied at each beam;
+/// graph may be a snapshot: a later commit needs no search. Each of the chosen has the body that it has there. Above the entry's level the lists are empty. The slot is emptied at each beam;
 /// after a refusal it may have any marks.
 pub fn prepare<N: Nodes, L: Ledger>(
     alloc: Global,
@@ -80,6 +81,7 @@ pub fn prepare<N: Nodes, L: Ledger>(
     ensures level { IfOk result (λ draft. draft.level ≡ level) }
     ensures body { IfOk result (λ draft. draft.body ≡ body) }
     ensures drafted { IfOk result (λ draft. AreDrafted (N.at graph.now.nodes) graph.now.m level draft.chosen) }
+    ensures bodies { IfOk result (λ draft. (layer : ℕ) → HaveBodies (N.at graph.now.nodes) (chosen_at draft.chosen layer)) }
     ensures chosen { IfOk result (λ draft. (cut : ℕ) (ids : Items ℕ) → AreIds (N.at graph.now.nodes) ids
         → IsChosen (set_of (N.at graph.now.nodes) graph.now.entry graph.now.m graph.now.dim cut ids) (bits_of_words graph.now.dim body.bits) level ef (names_down draft.chosen)) }
 {

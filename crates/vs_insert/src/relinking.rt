@@ -3,8 +3,10 @@ ghost use mathlib.Core.HProp.{IsProp-prop};
 ghost use Rattle.vs_rank.specs.Tests.{Answers};
 ghost use Rattle.vs_graph.specs.Edits.{overwritten};
 ghost use Rattle.vs_graph.specs.Good.{links_at, IsEntry, StandsAt, AreLinksGood};
+ghost use Rattle.vs_graph.specs.GoodTable.{KeepsLinked};
 ghost use Rattle.vs_insert.specs.Choosing.{everyone};
-ghost use Rattle.vs_insert.specs.Rejoined.{IsWithout, HasAnother, IsStart, IsOrphansChoice, IsRejoined, RejoinsByNames, others_of};
+ghost use Rattle.vs_unlink.specs.Unlinked.{bare, IsWithout};
+ghost use Rattle.vs_insert.specs.Rejoined.{HasAnother, IsStart, IsOrphansChoice, IsRejoined, RejoinsByNames, others_of};
 
 use crate::highest::highest_but;
 use std::alloc::Global;
@@ -153,8 +155,8 @@ fn rejoin<N: Nodes, F: Testing + Drop, L: Ledger>(
 
 /// Joins a member that a removal left without a link at a layer where others stand: a beam of width 200 in the graph before the removal,
 /// from the entry after it, or where that is the orphan itself, from the highest of the others; the removed member and the orphan are
-/// left out of what it found. The links are those that the definitions make, by ids and by names. After a refusal the edit is to be
-/// dropped; the graph is as it was, and the slot may have any marks.
+/// left out of what it found. The links are those that the definitions make, by ids and by names. Levels, bodies and attributes stay, and
+/// so does the entry. After a refusal the edit is to be dropped; the graph is as it was, and the slot may have any marks.
 pub fn relink<N: Nodes, L: Ledger>(
     alloc: Global,
     edit: &mut Edit,
@@ -174,6 +176,10 @@ pub fn relink<N: Nodes, L: Ledger>(
     requires another { HasAnother (overwritten edit.old (N.at graph.now.nodes)) orphan.layer orphan.id }
     ensures joined { OnOk result (IsRejoined (N.at graph.now.nodes) (overwritten edit.old (N.at graph.now.nodes)) (overwritten edit.new (N.at graph.now.nodes)) graph.now.m graph.now.dim entry orphan.layer orphan.id) }
     ensures rejoins { OnOk result (RejoinsByNames (N.at graph.now.nodes) (overwritten edit.old (N.at graph.now.nodes)) (overwritten edit.new (N.at graph.now.nodes)) graph.now.entry graph.now.m graph.now.dim entry orphan.layer orphan.id) }
+    ensures without { OnOk result ((x : ℕ) → IsWithout (N.at graph.now.nodes) (overwritten edit.old (N.at graph.now.nodes)) x → IsWithout (N.at graph.now.nodes) (overwritten edit.new (N.at graph.now.nodes)) x) }
+    ensures rest { OnOk result ((id : ℕ) → bare (overwritten edit.new (N.at graph.now.nodes) id) ≡ bare (overwritten edit.old (N.at graph.now.nodes) id)) }
+    ensures top { OnOk result (IsEntry (overwritten edit.new (N.at graph.now.nodes)) (Some entry)) }
+    ensures kept { OnOk result ((layer : ℕ) → KeepsLinked (links_at (overwritten edit.old (N.at graph.now.nodes)) layer) (links_at (overwritten edit.new (N.at graph.now.nodes)) layer)) }
 {
     let everyone = |_attr: Option<&[u8]>| true;
     rejoin(alloc, edit, graph, entry, orphan, ef, everyone, slot, reads)

@@ -1,6 +1,7 @@
 -- A draft's lists stay good while another member is added.
-use Rattle.std.proofs.Common.{◌≡◌, ◌≢◌, ℕ, ◌<◌, ◌≤◌, List, get_or, refl, sym, ap, ◌∙◌, subst, arith}
+use Rattle.std.proofs.Common.{◌≡◌, ◌≢◌, ℕ, ◌<◌, ◌≤◌, List, [], get_or, refl, sym, ap, ◌∙◌, subst, arith}
 use Rattle.std.specs.Prelude.{Some, None, IsSome, IsSomeAnd, option_map}
+use Rattle.std.specs.Option.{option_map_or}
 use Rattle.std.specs.declared.option.Option.{Option}
 use Rattle.vs_graph.specs.declared.node.Node.{Node}
 use Rattle.vs_graph.specs.declared.node.Attr.{Attr}
@@ -45,7 +46,7 @@ module _ (at new : ℕ → Option Node) (entry : Option ℕ) (m dim id : ℕ) (a
   choices_last : (layer : ℕ) (list : List Chosen) → AreChoices at m layer list → AreChoices new m layer list
   choices_last layer list are = record {
     stand = λ k d h. stands_on layer (get_or list k d).id (are.stand k d h);
-    bodies = λ k d h. body_on layer (get_or list k d).id (are.stand k d h) ∙ are.bodies k d h;
+    names = λ k d h. ap (λ o. option_map_or (λ body. body.name) o []) (body_on layer (get_or list k d).id (are.stand k d h)) ∙ are.names k d h;
     once = are.once;
     few = are.few;
   }

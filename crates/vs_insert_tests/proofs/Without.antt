@@ -7,7 +7,7 @@ use Rattle.vs_graph.specs.Good.{layers_at, AreLinksGood}
 use Rattle.vs_graph.specs.Relinks.{Relinks}
 use Rattle.vs_graph.specs.Table.{Table}
 use Rattle.vs_unlink.specs.Unlinked.{bare, IsTakenOut}
-use Rattle.vs_insert.specs.Rejoined.{IsWithout}
+use Rattle.vs_unlink.specs.Unlinked.{IsWithout}
 use Rattle.vs_unlink.proofs.Layers.{bare_kept}
 
 module _ (at before new : ℕ → Option Node) (x : ℕ) (same : before ≡ at) (out : IsTakenOut before new x (layers_at before x)) where

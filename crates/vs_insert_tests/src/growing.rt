@@ -111,7 +111,7 @@ fn vector_at(number: u16) -> u64 {
 }
 
 /// A graph of so many members with M 4. The level of each is drawn without a pattern: three of four stay at the level below.
-pub fn grown<N: FreshNodes + Drop, L: Ledger>(
+pub fn grown<N: FreshNodes, L: Ledger>(
     alloc: Global,
     count: u16,
     slot: &mut Slot,

@@ -2,7 +2,8 @@
 ghost use Rattle.std.specs.Prelude.{◌≡◌, ◌≤◌, ℕ, [], true, false, None, Some, IfSome};
 ghost use Rattle.vs_graph.specs.Edits.{overwritten};
 ghost use Rattle.vs_graph.specs.Good.{links_at, StandsAt, IsEntry, AllLinked, AreLinksGood};
-ghost use Rattle.vs_insert.specs.Rejoined.{IsWithout, HasAnother};
+ghost use Rattle.vs_unlink.specs.Unlinked.{IsWithout};
+ghost use Rattle.vs_insert.specs.Rejoined.{HasAnother};
 ghost use Rattle.vs_insert_tests.specs.Ready.{IsAlone, IsReady, IsWhole};
 
 use std::sync::ledger::Ledger;

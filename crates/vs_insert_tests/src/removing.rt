@@ -1,7 +1,7 @@
 ghost use Rattle.std.specs.Prelude.{ℕ, IfOk, IfSome, OnOk};
 ghost use Rattle.vs_graph.specs.Edits.{overwritten};
 ghost use Rattle.vs_graph.specs.Good.{AreLinksGood, IsGood};
-ghost use Rattle.vs_insert.specs.Rejoined.{IsWithout};
+ghost use Rattle.vs_unlink.specs.Unlinked.{IsWithout};
 
 use crate::readiness::{is_ready, is_whole, stands};
 use std::alloc::Global;

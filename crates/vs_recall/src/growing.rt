@@ -52,7 +52,7 @@ fn add<N: Nodes, L: Ledger>(
 }
 
 /// A graph of all members of the table in order, with M 16, and levels of the words of seed 0 and stream 0.
-pub fn grown<N: FreshNodes + Drop, L: Ledger>(
+pub fn grown<N: FreshNodes, L: Ledger>(
     alloc: Global,
     table: &Table,
     slot: &mut Slot,

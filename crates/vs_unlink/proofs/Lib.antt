@@ -16,3 +16,4 @@ pub mod Leavings
 pub mod Reordered
 pub mod OrphanNames
 pub mod Listed
+pub mod Remaining

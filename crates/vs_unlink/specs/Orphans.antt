@@ -4,7 +4,7 @@ use Rattle.vs_defs.specs.Bytes.{Bytes}
 use Rattle.vs_graph.specs.declared.node.Node.{Node}
 use Rattle.vs_graph.specs.Bodies.{Bodies}
 use Rattle.vs_defs.specs.Removal.{orphans}
-use Rattle.vs_graph.specs.Good.{links_at, AreLinksGood}
+use Rattle.vs_graph.specs.Good.{links_at, StandsAt, AreLinksGood}
 use Rattle.vs_graph.specs.Standing.{AreIds, name_of, named_links, set_of}
 use Rattle.vs_graph.specs.Table.{Table, without}
 use Rattle.vs_unlink.specs.declared.Orphan.{Orphan}
@@ -21,6 +21,11 @@ at_layer layer ids = map (λ y. record { layer = layer; id = y }) ids
 pub data Lists (bodies : Bodies) (tables : ℕ → Table) (former : ℕ → List ℕ) (count : ℕ) : ℕ → List Orphan → Type 0 where
   none : Lists bodies tables former count count []
   next : (n : ℕ) (os : List Orphan) (ids : List ℕ) → Lists bodies tables former count (n + 1) os → AreAlone bodies (tables n) (former n) ids → Lists bodies tables former count n (os ++ at_layer n ids)
+
+-- one that is left at its layer, and has no link there
+pub record IsLeftAlone (now : ℕ → Option Node) (orphan : Orphan) : Type 0 where
+  pub stands : StandsAt now orphan.layer orphan.id
+  pub free : links_at now orphan.layer orphan.id ≡ []
 
 -- an orphan by its layer and its name in the graph before
 abbrev pub named_orphan : (ℕ → Option Node) → Orphan → ℕ × Bytes

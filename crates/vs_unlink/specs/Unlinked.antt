@@ -1,5 +1,5 @@
 -- What a removal leaves, over all layers.
-use Rattle.std.specs.Prelude.{◌≡◌, ◌≢◌, ◌<◌, ◌≤◌, ℕ, List, [], map, option_map, None}
+use Rattle.std.specs.Prelude.{◌≡◌, ◌≢◌, ◌<◌, ◌≤◌, ℕ, List, [], map, option_map, None, IsSome}
 use Rattle.std.specs.declared.option.Option.{Option}
 use Rattle.vs_graph.specs.declared.node.Node.{Node}
 use Rattle.vs_graph.specs.Good.{links_at, AreLinksGood}
@@ -35,6 +35,12 @@ pub record IsTakenOut (at new : ℕ → Option Node) (x layers : ℕ) : Type 0 w
   pub above : (l id : ℕ) → layers ≤ l → id ≢ x → links_at new l id ≡ links_at at l id
   pub rest : (id : ℕ) → id ≢ x → bare (new id) ≡ bare (at id)
   pub good : (m dim : ℕ) → AreLinksGood at m dim → AreLinksGood new m dim
+
+-- the graph without x, whose other nodes are as they were but for links
+pub record IsWithout (at now : ℕ → Option Node) (x : ℕ) : Type 0 where
+  pub was : IsSome (at x)
+  pub gone : now x ≡ None
+  pub others : (q : ℕ) → q ≢ x → bare (now q) ≡ bare (at q)
 
 -- of the set that a graph stands for, in whatever order its members stand, the links by names that are left are those that the definitions leave
 abbrev pub UnlinksByNames : (ℕ → Option Node) → (ℕ → Option Node) → ℕ → Type 0

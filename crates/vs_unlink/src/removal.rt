@@ -1,10 +1,10 @@
-ghost use Rattle.std.specs.Prelude.{◌≡◌, ◌<◌, ◌≤◌, ℕ, Some, IsSome, IfOk, OnOk};
+ghost use Rattle.std.specs.Prelude.{◌≡◌, ◌<◌, ◌≤◌, ℕ, Some, IsSome, IfOk, OnOk, All};
 ghost use Rattle.vs_graph.specs.Edits.{overwritten};
 ghost use Rattle.vs_graph.specs.Good.{links_at, AreLinksGood};
 ghost use Rattle.vs_graph.specs.Good.{body_at};
-ghost use Rattle.vs_unlink.specs.Orphans.{Lists, ListsByNames, KeepsLinkedBut};
+ghost use Rattle.vs_unlink.specs.Orphans.{IsLeftAlone, Lists, ListsByNames, KeepsLinkedBut};
 ghost use Rattle.vs_graph.specs.Good.{layers_at};
-ghost use Rattle.vs_unlink.specs.Unlinked.{IsOutBelow, IsTakenOut, UnlinksByNames};
+ghost use Rattle.vs_unlink.specs.Unlinked.{IsOutBelow, IsTakenOut, IsWithout, UnlinksByNames};
 
 use crate::Orphan;
 use crate::layer::unlink_layer;
@@ -66,7 +66,9 @@ pub fn unlink<N: Nodes, L: Ledger>(
     requires good { (m : ℕ) × (dim : ℕ) × (dim ≤ 32768) × AreLinksGood (overwritten edit.old (N.at base.now)) m dim }
     requires live { IsSome (overwritten edit.old (N.at base.now) x) }
     ensures out { OnOk result (IsTakenOut (overwritten edit.old (N.at base.now)) (overwritten edit.new (N.at base.now)) x (layers_at (overwritten edit.old (N.at base.now)) x)) }
+    ensures without { OnOk result (IsWithout (overwritten edit.old (N.at base.now)) (overwritten edit.new (N.at base.now)) x) }
     ensures orphans { IfOk result (λ all. Lists (body_at (overwritten edit.new (N.at base.now))) (links_at (overwritten edit.new (N.at base.now))) (λ l. links_at (overwritten edit.old (N.at base.now)) l x) (layers_at (overwritten edit.old (N.at base.now)) x) 0 all) }
+    ensures left { IfOk result (λ all. All (IsLeftAlone (overwritten edit.new (N.at base.now))) all) }
     ensures unlinks { OnOk result (UnlinksByNames (overwritten edit.old (N.at base.now)) (overwritten edit.new (N.at base.now)) x) }
     ensures named { IfOk result (λ all. ListsByNames (overwritten edit.old (N.at base.now)) (overwritten edit.new (N.at base.now)) x all) }
     ensures kept { IfOk result (λ all. KeepsLinkedBut (overwritten edit.old (N.at base.now)) (overwritten edit.new (N.at base.now)) x all) }

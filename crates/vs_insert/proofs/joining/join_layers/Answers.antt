@@ -68,7 +68,7 @@ loop-layer-preserved g c =
     ] in
     record {
       within = omega (arith, within);
-      joined = joined_more at now new c.args.m c.args.x c.args.entry c.if-layer-shared.fallback chosen n within j step falls (c.requires.chosen n).bodies;
+      joined = joined_more at now new c.args.m c.args.x c.args.entry c.if-layer-shared.fallback chosen n within j step falls (c.requires.chosen n).names;
       told = λ done sum.
           told_next c.args.m n c.loop-layer.layer c.loop-layer.reads c.join_layer.new.reads c.args.reads.now (length chosen) done c.requires.low is sum c.loop-layer.invariant.within c.loop-layer.invariant.told c.in_ok-join_layer.ensures.told;
     }

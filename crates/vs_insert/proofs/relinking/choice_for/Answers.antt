@@ -12,7 +12,8 @@ use Rattle.vs_beam.specs.Beam.{IsBeam}
 use Rattle.vs_insert.specs.Choosing.{everyone}
 use Rattle.vs_insert.specs.Rejoined.{IsStart, others_of}
 use Rattle.vs_insert.proofs.Choices.{links_over}
-use Rattle.vs_insert.proofs.Orphans.{stood, start_may, left_live, live_over, another_live, choice_may, some_left, selected_some}
+use Rattle.vs_unlink.proofs.Remaining.{stood}
+use Rattle.vs_insert.proofs.Orphans.{start_may, left_live, live_over, another_live, choice_may, some_left, selected_some}
 use Rattle.vs_insert.proofs.relinking.choice_for.Goals as goal
 
 pub beam-requires-clause-stands : goal.beam-requires-clause-stands

@@ -1,6 +1,6 @@
 use Rattle.std.proofs.Common.{◌≡◌, ap, sym, subst}
 use Rattle.vs_graph.specs.Edits.{overwritten}
-use Rattle.vs_insert.specs.Rejoined.{IsWithout}
+use Rattle.vs_unlink.specs.Unlinked.{IsWithout}
 use Rattle.vs_insert_tests.specs.Ready.{IsReady}
 use Rattle.vs_insert_tests.proofs.Without.{without_yet}
 use Rattle.vs_insert_tests.proofs.removing.rejoin.Goals as goal

@@ -1,7 +1,7 @@
 use Rattle.std.proofs.Common.{ℕ}
 use Rattle.vs_graph.specs.Edits.{overwritten}
 use Rattle.vs_graph.specs.Good.{AreLinksGood}
-use Rattle.vs_insert.specs.Rejoined.{IsWithout}
+use Rattle.vs_unlink.specs.Unlinked.{IsWithout}
 use Rattle.vs_insert_tests.proofs.removing.rejoin_all.Given as goal
 
 -- the same member is out, and the links are good

@@ -2,7 +2,7 @@ use Rattle.std.proofs.Common.{◌≡◌, ap, ◌∙◌, refl, subst}
 use Rattle.vs_graph.specs.Edits.{overwritten}
 use Rattle.vs_graph.specs.Good.{AreLinksGood}
 use Rattle.vs_graph.proofs.Renaming.{no_change}
-use Rattle.vs_insert.specs.Rejoined.{IsWithout}
+use Rattle.vs_unlink.specs.Unlinked.{IsWithout}
 use Rattle.vs_insert.proofs.Choices.{links_over}
 use Rattle.vs_insert.proofs.Orphans.{some_node}
 use Rattle.vs_insert_tests.proofs.Without.{without_one, good_without}
