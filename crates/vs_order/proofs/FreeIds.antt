@@ -88,17 +88,21 @@ pushed taken [] next s room = record {
 pushed taken (x ∷ xs) next s room =
     moved taken (x ∷ xs) (taken ++ get_or (x ∷ xs) (length (x ∷ xs) - 1) next ∷ []) (take (length (x ∷ xs) - 1) (x ∷ xs)) next (last_moves taken x xs next) s
 
--- the id at a place is free again
+-- the id at a place goes out
+pub goes_out : (taken : List ℕ) (place d : ℕ) → place < length taken → IsPermutation taken (get_or taken place d ∷ swap_remove taken place d)
+goes_out taken place d low =
+    let y : ℕ = get_or taken place d in
+    subst (λ l. IsPermutation taken (y ∷ l)) (ap (λ z. take (length taken - 1) (slice_set taken place z)) (get_or_default taken (length taken - 1) y d (omega (arith, low))))
+    (IsPermutation-swap_remove taken place y low (get_or_default taken place d y low))
+
+-- and is free again
 pub removed : (taken free : List ℕ) (next place d : ℕ) → AreSplit taken free next → place < length taken
     → AreSplit (swap_remove taken place d) (free ++ get_or taken place d ∷ []) next
 removed taken free next place d s low =
     let y : ℕ = get_or taken place d in
     let left = swap_remove taken place d in
-    let out : IsPermutation taken (y ∷ left)
-    = subst (λ l. IsPermutation taken (y ∷ l)) (ap (λ z. take (length taken - 1) (slice_set taken place z)) (get_or_default taken (length taken - 1) y d (omega (arith, low))))
-    (IsPermutation-swap_remove taken place y low (get_or_default taken place d y low)) in
     moved taken free left (free ++ y ∷ []) next
-    (IsPermutation-trans (taken ++ free) (y ∷ (left ++ free)) (left ++ (free ++ y ∷ [])) (IsPermutation-append_left free taken (y ∷ left) out)
+    (IsPermutation-trans (taken ++ free) (y ∷ (left ++ free)) (left ++ (free ++ y ∷ [])) (IsPermutation-append_left free taken (y ∷ left) (goes_out taken place d low))
     (IsPermutation-trans (y ∷ (left ++ free)) ((left ++ free) ++ y ∷ []) (left ++ (free ++ y ∷ [])) (IsPermutation-sym ((left ++ free) ++ y ∷ []) (y ∷ (left ++ free)) (IsPermutation-to_front (left ++ free) y))
     (subst (IsPermutation ((left ++ free) ++ y ∷ [])) (append_assoc left free (y ∷ [])) (IsPermutation-refl ((left ++ free) ++ y ∷ []))))) s
 
