@@ -12,3 +12,12 @@ pub mod Orphans
 pub mod Leavings
 pub mod Rejoining
 pub mod Staying
+pub mod Walks
+pub mod Removed
+pub mod Entries
+pub mod Turns
+pub mod Walked
+pub mod Removal
+pub mod AddedAgain
+pub mod Renamed
+pub mod Lists

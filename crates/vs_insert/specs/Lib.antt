@@ -4,3 +4,8 @@ pub mod Added
 pub mod Choosing
 pub mod Height
 pub mod Rejoined
+pub mod Walking
+pub mod Turns
+pub mod Walked
+pub mod Removed
+pub mod Chosen
