@@ -1,5 +1,5 @@
 -- The first of what the scan found are the definitions' nearest members.
-use Rattle.std.proofs.Common.{◌≡◌, ℕ, zero, suc, ◌+◌, ◌<◌, ◌≤◌, Bool, true, false, cond, List, [], ◌∷◌, ◌++◌, length, take, refl, sym, ap, ◌∙◌, arith, map, inl, inr, take_all, append_assoc, length-append}
+use Rattle.std.proofs.Common.{subst, ◌≡◌, ◌≢◌, ℕ, zero, suc, ◌+◌, ◌<◌, ◌≤◌, Bool, true, false, cond, List, [], ◌∷◌, ◌++◌, length, take, refl, sym, ap, ◌∙◌, arith, map, inl, inr, take_all, append_assoc, length-append}
 use Rattle.std.specs.Prelude.{slice_get, Some, filter, min}
 use Rattle.std.specs.List.{AllByRecursion}
 use Rattle.std.specs.Ordering.{nat_cmp, ordering_then, is_gt}
@@ -8,6 +8,7 @@ use Rattle.std.specs.declared.cmp.Ordering.TheVariants.{Less, Equal, Greater}
 use Rattle.std.proofs.Math.Seq.{get_or-append_seam}
 use Rattle.std.proofs.lemmas.Bool.{cases_lt}
 use Rattle.std.proofs.lemmas.Bool.Decides.{nat_tests}
+use Rattle.std.proofs.lemmas.Map.Lookups.{exact_bytes}
 use Rattle.std.proofs.lemmas.Option.{slice_get-get_or}
 use Rattle.std.proofs.lemmas.List.{take-map}
 use Rattle.std.proofs.lemmas.List.Elements.{All-from_recursion, recursion_from_All}
@@ -21,13 +22,13 @@ use Rattle.vs_rank.proofs.Sorted.{sort_permutes}
 use Rattle.vs_truth.specs.declared.candidate.Hit.{Hit}
 use Rattle.vs_truth.specs.declared.candidate.Candidate.{Candidate}
 use Rattle.vs_truth.specs.Nearest.{AreHits, nearest_passing}
-use Rattle.vs_truth.specs.Nears.{Near, near_cmp, near_of, near_at, nears_of, placed_from, candidate_hit}
+use Rattle.vs_truth.specs.Nears.{Near, near_cmp, near_of, near_at, near_hit, nears_of, placed_from, candidate_hit}
 use Rattle.vs_truth.proofs.Order.{long_map}
 
-abbrev Placed : Type 0
+abbrev pub Placed : Type 0
 Placed = ℕ × Member
 
-abbrev member_in : Placed → Member
+abbrev pub member_in : Placed → Member
 member_in r = r.1
 
 abbrev placed_cmp : Vector → Placed → Placed → Ordering
@@ -150,6 +151,26 @@ placed_few p n (x ∷ xs) = omega (arith, placed_few_case (p x.attr) (length xs)
 
 -- ---- the hits
 
+abbrev pub IsPlaced : List Member → Placed → Type 0
+IsPlaced members r = slice_get members r.0 ≡ Some r.1
+
+-- members at their places, in order
+hits_are : (q : Vector) (members : List Member) (first : List Placed) (nears : List Near) (hits : List Hit)
+    → hits ≡ map near_hit nears → nears ≡ map (near_at q) first → AllByRecursion (IsPlaced members) first → AreHits q members (map member_in first) hits
+hits_are q members first nears hits made are all = record {
+  places =
+      ap (map (λ (h : Hit). slice_get members h.place)) (made ∙ ap (map near_hit) are)
+      ∙ map_map near_hit (λ (h : Hit). slice_get members h.place) (map (near_at q) first)
+      ∙ map_map (near_at q) (λ (n : Near). slice_get members n.place) first
+      ∙ map_by (λ (r : Placed). slice_get members r.0) (λ (r : Placed). Some r.1) first all
+      ∙ sym (map_map member_in (λ (x : Member). Some x) first);
+  dists =
+      ap (map (λ (h : Hit). h.dist)) (made ∙ ap (map near_hit) are)
+      ∙ map_map near_hit (λ (h : Hit). h.dist) (map (near_at q) first)
+      ∙ map_map (near_at q) (λ (n : Near). n.dist) first
+      ∙ sym (map_map member_in (λ (x : Member). ham q x.bits) first);
+}
+
 pub answered : (p : Attribute → Bool) (q : Vector) (count : ℕ) (members : List Member) (xs : List Candidate) (hits : List Hit)
     → hits ≡ map candidate_hit xs → map near_of xs ≡ take (min count (length members)) (sort_by near_cmp (nears_of p q members))
     → AreHits q members (nearest_passing p count q members) hits
@@ -162,24 +183,41 @@ answered p q count members xs hits made found =
     let nears : map near_of xs ≡ map (near_at q) first
     = found ∙ take_least count (length members) (sort_by near_cmp (nears_of p q members)) few ∙ ap (take count) (sym (sort_seen q rows)) ∙ take-map (near_at q) count ranked in
     let members_are : map member_in first ≡ nearest_passing p count q members = sym (take-map member_in count ranked) ∙ ap (take count) (sort_members p q 0 members) in
-    let all : AllByRecursion (λ (r : Placed). slice_get members r.0 ≡ Some r.1) first
-    = all_take (λ (r : Placed). slice_get members r.0 ≡ Some r.1) count ranked (all_sorted (placed_cmp q) (λ (r : Placed). slice_get members r.0 ≡ Some r.1) rows (stand p members [] members 0 refl refl)) in
-    record {
-      places =
-          ap (map (λ (h : Hit). slice_get members h.place)) made
-          ∙ map_map candidate_hit (λ (h : Hit). slice_get members h.place) xs
-          ∙ sym (map_map near_of (λ (n : Near). slice_get members n.place) xs)
-          ∙ ap (map (λ (n : Near). slice_get members n.place)) nears
-          ∙ map_map (near_at q) (λ (n : Near). slice_get members n.place) first
-          ∙ map_by (λ (r : Placed). slice_get members r.0) (λ (r : Placed). Some r.1) first all
-          ∙ sym (map_map member_in (λ (x : Member). Some x) first)
-          ∙ ap (map (λ (x : Member). Some x)) members_are;
-      dists =
-          ap (map (λ (h : Hit). h.dist)) made
-          ∙ map_map candidate_hit (λ (h : Hit). h.dist) xs
-          ∙ sym (map_map near_of (λ (n : Near). n.dist) xs)
-          ∙ ap (map (λ (n : Near). n.dist)) nears
-          ∙ map_map (near_at q) (λ (n : Near). n.dist) first
-          ∙ sym (map_map member_in (λ (x : Member). ham q x.bits) first)
-          ∙ ap (map (λ (x : Member). ham q x.bits)) members_are;
-    }
+    let all : AllByRecursion (IsPlaced members) first = all_take (IsPlaced members) count ranked (all_sorted (placed_cmp q) (IsPlaced members) rows (stand p members [] members 0 refl refl)) in
+    subst (λ l. AreHits q members l hits) members_are (hits_are q members first (map near_of xs) hits (made ∙ sym (map_map near_of near_hit xs)) nears all)
+
+-- ---- members of different names, in any order
+
+then_equal : (a b : Ordering) → (b ≡ Equal → ⊥) → (c : Ordering) → is_gt (ordering_then a (ordering_then b c)) ≡ is_gt (ordering_then a b)
+then_equal Less b ne c = refl
+then_equal Equal Less ne c = refl
+then_equal Equal Equal ne c = absurd (ne refl)
+then_equal Equal Greater ne c = refl
+then_equal Greater b ne c = refl
+
+agree_named : (q : Vector) (x : Placed) (rows : List Placed) → AllByRecursion (λ (r : Placed). x.1.name ≢ r.1.name) rows
+    → AllByRecursion (λ (r : Placed). is_gt (placed_cmp q x r) ≡ is_gt (nearness q x.1 r.1)) rows
+agree_named q x [] h = tt
+agree_named q x (r ∷ rows) h = (
+  then_equal (nat_cmp (ham q x.1.bits) (ham q r.1.bits)) (name_cmp x.1.name r.1.name) (λ e. h.0 (exact_bytes x.1.name r.1.name e)) (nat_cmp x.0 r.0),
+  agree_named q x rows h.1,
+)
+
+abbrev pub HaveNamesOnce : List Placed → Type 0
+HaveNamesOnce [] = Unit {0}
+HaveNamesOnce (x ∷ rows) = AllByRecursion (λ (r : Placed). x.1.name ≢ r.1.name) rows × HaveNamesOnce rows
+
+sort_named : (q : Vector) (rows : List Placed) → HaveNamesOnce rows → map member_in (sort_by (placed_cmp q) rows) ≡ by_nearness q (map member_in rows)
+sort_named q [] h = refl
+sort_named q (x ∷ rows) h =
+    place_maps member_in (placed_cmp q) (nearness q) x (sort_by (placed_cmp q) rows)
+    (agree_named q x (sort_by (placed_cmp q) rows) (all_sorted (placed_cmp q) (λ (r : Placed). x.1.name ≢ r.1.name) rows h.0))
+    ∙ ap (place_by (nearness q) x.1) (sort_named q rows h.1)
+
+pub named_hits : (q : Vector) (count : ℕ) (members : List Member) (rows : List Placed) (hits : List Hit) → HaveNamesOnce rows → AllByRecursion (IsPlaced members) rows
+    → hits ≡ map near_hit (take count (sort_by near_cmp (map (near_at q) rows))) → AreHits q members (take count (by_nearness q (map member_in rows))) hits
+named_hits q count members rows hits once all made =
+    let ranked : List Placed = sort_by (placed_cmp q) rows in
+    subst (λ l. AreHits q members l hits) (sym (take-map member_in count ranked) ∙ ap (take count) (sort_named q rows once))
+    (hits_are q members (take count ranked) (take count (sort_by near_cmp (map (near_at q) rows))) hits made (ap (take count) (sym (sort_seen q rows)) ∙ take-map (near_at q) count ranked)
+    (all_take (IsPlaced members) count ranked (all_sorted (placed_cmp q) (IsPlaced members) rows all)))

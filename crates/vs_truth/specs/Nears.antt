@@ -32,6 +32,9 @@ candidate_cmp x y = near_cmp (near_of x) (near_of y)
 abbrev pub candidate_hit : Candidate → Hit
 candidate_hit found = record { place = found.place; dist = found.dist }
 
+abbrev pub near_hit : Near → Hit
+near_hit near = record { place = near.place; dist = near.dist }
+
 -- the members from a place on that pass, each with its place
 abbrev pub placed_from : (Attribute → Bool) → ℕ → List Member → List (ℕ × Member)
 placed_from passes place [] = []

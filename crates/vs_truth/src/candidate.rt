@@ -6,11 +6,10 @@ pub struct Hit {
     pub dist: u32,
 }
 
-/// A member that passes, ordered as members are answered: by distance, then name. The place decides
-/// between equal names.
+/// A member that may be among the nearest, ordered as members are answered: by distance, then name. The place decides between equal names.
 #[derive(Clone, Copy, PartialEq, Eq, PartialOrd, Ord)]
-pub(crate) struct Candidate<'a> {
-    pub(crate) dist: u32,
-    pub(crate) name: &'a [u8],
-    pub(crate) place: u32,
+pub struct Candidate<'a> {
+    pub dist: u32,
+    pub name: &'a [u8],
+    pub place: u32,
 }

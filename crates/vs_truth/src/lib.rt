@@ -2,12 +2,13 @@
 #![tactic(auto)]
 
 mod candidate;
-mod few;
 mod members;
+mod nearest_heap;
 mod scan;
 #[cfg(test)]
 mod tests;
 
-pub use candidate::Hit;
+pub use candidate::{Candidate, Hit};
 pub use members::Members;
-pub use scan::nearest;
+pub use nearest_heap::NearestHeap;
+pub use scan::{hits_of, nearest};

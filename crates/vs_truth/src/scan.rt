@@ -8,7 +8,7 @@ ghost use Rattle.vs_truth.specs.Nearest.{AreHits, nearest_passing};
 ghost use Rattle.vs_truth.specs.Nears.{near_cmp, nears_of, candidate_hit};
 
 use crate::candidate::Candidate;
-use crate::few::Few;
+use crate::nearest_heap::NearestHeap;
 use crate::{Hit, Members};
 use std::alloc::{AllocError, Global};
 use std::sync::ledger::Ledger;
@@ -26,13 +26,13 @@ fn first_passing<'a, M: Members, F: Testing, L: Ledger>(
     most: u32,
     wanted: &Wanted<F>,
     reads: &mut Steps<L>,
-) -> Result<Few<'a>, AllocError>
+) -> Result<NearestHeap<'a>, AllocError>
     requires fits { All (λ member. length member.bits ≡ length query.now) (M.members members.now) }
     ensures nears { IfOk result (λ few. (passes : Attribute → Bool) → Answers (F.gives wanted.now.test) passes → few.nears ≡ take most (sort_by near_cmp (nears_of passes query.now (M.members members.entry.now)))) }
     ensures told { reads.new ≤ reads.old + length (M.members members.entry.now) }
 {
     let words = query.words();
-    let mut few = Few::new(alloc, most)?;
+    let mut few = NearestHeap::new(alloc, most)?;
     for place in 0..members.count() {
         if wanted.passes(members.attr(place)) {
             few.offer(Candidate {
@@ -45,7 +45,8 @@ fn first_passing<'a, M: Members, F: Testing, L: Ledger>(
     Ok(few)
 }
 
-fn hits_of(alloc: Global, found: &[Candidate]) -> Result<Vec<Hit>, AllocError>
+/// The places and the distances of candidates.
+pub fn hits_of(alloc: Global, found: &[Candidate]) -> Result<Vec<Hit>, AllocError>
     ensures { IfOk result (λ hits. hits.items ≡ map candidate_hit found.now) }
 {
     found

@@ -1,7 +1,7 @@
 use Rattle.std.proofs.Common.{ap, ◌∙◌}
 use Rattle.vs_truth.specs.Nears.{First}
 use Rattle.vs_truth.proofs.Order.{sorted_out}
-use Rattle.vs_truth.proofs.few.Few.into_sorted.Goals as goal
+use Rattle.vs_truth.proofs.nearest_heap.NearestHeap.into_sorted.Goals as goal
 
 pub returns : goal.returns
 returns c =

@@ -4,7 +4,7 @@ use Rattle.std.specs.Ordering.{is_gt}
 use Rattle.std.specs.Option.{option_map_or}
 use Rattle.vs_truth.specs.Nears.{First, near_of, near_cmp}
 use Rattle.vs_truth.proofs.Order.{last_is_top}
-use Rattle.vs_truth.proofs.few.Few.is_before_last.Goals as goal
+use Rattle.vs_truth.proofs.nearest_heap.NearestHeap.is_before_last.Goals as goal
 
 pub returns-in-Some : goal.returns-in-Some
 returns-in-Some c =

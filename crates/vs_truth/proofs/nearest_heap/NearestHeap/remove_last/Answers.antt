@@ -1,7 +1,7 @@
 use Rattle.std.proofs.Common.{◌<◌, ◌-◌, take, length, heap_len, arith, ap, ◌∙◌}
 use Rattle.vs_truth.specs.Nears.{First}
 use Rattle.vs_truth.proofs.Order.{popped, kept_long}
-use Rattle.vs_truth.proofs.few.Few.remove_last.Goals as goal
+use Rattle.vs_truth.proofs.nearest_heap.NearestHeap.remove_last.Goals as goal
 
 pub returns-clause-nears : goal.returns-clause-nears
 returns-clause-nears c =

@@ -3,7 +3,7 @@ use Rattle.vs_defs.specs.Bytes.{place_by}
 use Rattle.vs_rank.proofs.Sorted.{not_both}
 use Rattle.vs_truth.specs.Nears.{First, near_of, near_cmp}
 use Rattle.vs_truth.proofs.Order.{kept_long, kept_more}
-use Rattle.vs_truth.proofs.few.Few.insert.Goals as goal
+use Rattle.vs_truth.proofs.nearest_heap.NearestHeap.insert.Goals as goal
 
 pub unreachable-requires : goal.unreachable-requires
 unreachable-requires c =

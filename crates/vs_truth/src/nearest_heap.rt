@@ -10,15 +10,15 @@ use std::alloc::{AllocError, Global};
 use std::collections::BinaryHeap;
 use std::marker::Model;
 
-/// The first few of the candidates that were offered, in a heap with the last of them on top. Its
-/// room is taken at the start.
+/// The first few of the candidates that were offered, by distance, then name, in a heap with the last of them on top. Its room is taken at
+/// the start.
 #[derive(Drop)]
-pub(crate) struct Few<'a> {
+pub struct NearestHeap<'a> {
     heap: BinaryHeap<Candidate<'a>>,
     most: u32,
 }
 
-impl<'a> Model for Few<'a> {
+impl<'a> Model for NearestHeap<'a> {
     ghost use Rattle.std.specs.Prelude.{◌≤◌, map};
     ghost use Rattle.std.specs.BinaryHeap.{heap_items, heap_len, heap_capacity, IsHeap};
     ghost use Rattle.vs_defs.specs.Bytes.{sort_by};
@@ -31,17 +31,18 @@ impl<'a> Model for Few<'a> {
     ghost invariant = { λ f. IsHeap candidate_cmp (heap_items f.heap) × (heap_len f.heap ≤ f.most) × (f.most ≤ heap_capacity f.heap) };
 }
 
-impl<'a> Few<'a> {
-    pub(crate) fn new(alloc: Global, most: u32) -> Result<Few<'a>, AllocError>
+impl<'a> NearestHeap<'a> {
+    /// Room for so many.
+    pub fn new(alloc: Global, most: u32) -> Result<NearestHeap<'a>, AllocError>
         ensures most { IfOk result (λ few. few.most ≡ most) }
         ensures nears { IfOk result (λ few. few.nears ≡ []) }
     {
         let heap = BinaryHeap::with_capacity(alloc, most as usize)?;
-        Ok(Few { heap, most })
+        Ok(NearestHeap { heap, most })
     }
 
-    /// It takes no memory.
-    pub(crate) fn offer(&mut self, candidate: Candidate<'a>)
+    /// Keeps the candidate where it is among the first, in the place of the last. It takes no memory.
+    pub fn offer(&mut self, candidate: Candidate<'a>)
         ensures nears { self.new.nears ≡ take self.old.most (place_by near_cmp (near_of candidate.entry) self.old.nears) }
         ensures most { self.new.most ≡ self.old.most }
     {
@@ -82,10 +83,10 @@ impl<'a> Few<'a> {
     }
 
     /// The candidates in order. It takes no memory.
-    pub(crate) fn into_sorted(self) -> Vec<Candidate<'a>>
+    pub fn into_sorted(self) -> Vec<Candidate<'a>>
         ensures { map near_of result.items ≡ self.entry.nears }
     {
-        let Few { heap, most: _ } = self;
+        let NearestHeap { heap, most: _ } = self;
         heap.into_sorted_vec()
     }
 }

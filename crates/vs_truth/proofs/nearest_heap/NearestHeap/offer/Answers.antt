@@ -4,7 +4,7 @@ use Rattle.vs_defs.specs.Bytes.{place_by}
 use Rattle.vs_rank.proofs.Sorted.{offer_more}
 use Rattle.vs_truth.specs.Nears.{First, near_of, near_cmp}
 use Rattle.vs_truth.proofs.Order.{near_order, kept_long, some_kept, offered_full}
-use Rattle.vs_truth.proofs.few.Few.offer.Goals as goal
+use Rattle.vs_truth.proofs.nearest_heap.NearestHeap.offer.Goals as goal
 
 pub insert-requires : goal.insert-requires
 insert-requires c =
