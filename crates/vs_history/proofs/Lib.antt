@@ -1,3 +1,4 @@
 pub mod Beginnings
 pub mod Histories
 pub mod RuleKept
+pub mod Calls

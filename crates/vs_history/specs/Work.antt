@@ -1,6 +1,6 @@
 -- What a call of the store does in a hold of the lock, and what is known once the hold ends.
 --     Work                        the store before and after the call, and what was asked and answered
---     entry_of number work answer      the entry of a change, by the author of the number
+--     entry_of number work        the entry of a change, by the author of the number
 --     Did limits log work         the store was the one after the history log, and the call did what the machine does
 --     Closed ..                   what is known at the end of the hold
 use Rattle.std.specs.Prelude.{◌≡◌, ℕ, ◌≤◌, ◌⊎◌, List, [], ◌∷◌, ◌++◌, Option, Some, None, IfSome, length}
@@ -30,8 +30,14 @@ pub record Work : Type 0 where
 abbrev pub no_work : Work
 no_work = record { old = empty_store usual_limits; request = request.Quit; words = []; draft = None; outcome = outcome.OutOfMemory; new = empty_store usual_limits }
 
-abbrev pub entry_of : ℕ → Work → Answer → Entry (Store Set)
-entry_of number w a = record { author = number; request = w.request; words = w.words; draft = w.draft; answer = a; store = w.new }
+-- the answer of a change; a refusal and want of memory are none
+abbrev pub answer_in : Outcome → Answer
+answer_in (outcome.Answered a) = a
+answer_in (outcome.Refused e) = request.Bye
+answer_in outcome.OutOfMemory = request.Bye
+
+abbrev pub entry_of : ℕ → Work → Entry (Store Set)
+entry_of number w = record { author = number; request = w.request; words = w.words; draft = w.draft; answer = answer_in w.outcome; store = w.new }
 
 -- as `StoreDoes` says, by beams in the store's own set or by a draft; a refusal and want of memory leave the store as it was
 abbrev pub DoesBy : Option Drafted → Store Set → Request → List ℕ → Outcome → Store Set → Type 0
@@ -58,4 +64,4 @@ module _ (limits : Limits) where
     -- for each list that the pass had seen before, where the draft was made no sooner
     pub call : (s : GraphHistory) → IsPrefix s log → own number log ≡ own number s → IfSome w.draft (λ p. length s ≤ p.place) → GraphCall limits number s w.request w.words w.outcome t
     -- one entry more, or none
-    pub grows : (t ≡ log) ⊎ ((a : Answer) × (w.outcome ≡ outcome.Answered a) × (t ≡ log ++ entry_of number w a ∷ []))
+    pub grows : (t ≡ log) ⊎ (t ≡ log ++ entry_of number w ∷ [])

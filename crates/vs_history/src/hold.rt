@@ -3,9 +3,9 @@ ghost use Rattle.std.specs.Prelude.{◌≡◌, ◌<◌, ◌+◌, ◌^◌, ◌++�
 ghost use Rattle.vs_defs.specs.History.{IsPrefix, own};
 ghost use Rattle.vs_thread_defs.specs.Machine.{GraphLegal};
 ghost use Rattle.vs_thread_defs.specs.Rule.{keeper as keeper_view, pass as pass_view, longer};
-ghost use Rattle.vs_history.specs.Work.{Did, Closed};
+ghost use Rattle.vs_history.specs.Work.{entry_of, Did, Closed};
 
-use crate::steps::{Change, append, lend, settle, take, take_back};
+use crate::steps::{append, lend, settle, take, take_back};
 use crate::{Seat, TableName, Word};
 use std::marker::Brand;
 
@@ -33,6 +33,58 @@ pub fn leave<N: TableName>(word: &Word<N>, keeper: &mut Seat<N>, pass: &mut Seat
 {
     let lent = lend(word, pass);
     take_back(word, keeper, lent);
+}
+
+/// Names what a call of the store did in a hold. A call that passes `Brand` picks it.
+pub trait Working {
+    ghost use Rattle.vs_history.specs.Work.{Work};
+
+    ghost work: { Work };
+}
+
+impl Working for Brand {
+    ghost use Rattle.vs_history.specs.Work.{no_work};
+
+    ghost work = { no_work };
+}
+
+// The pass puts the change that the work made at the end of the history.
+fn note_change<N: TableName, W: Working>(word: &Word<N>, pass: &mut Seat<N>)
+    requires pass { pass.old ≡ pass_view pass.old.number pass.old.seen true [] pass.old.own }
+    requires legal { GraphLegal N.limits (pass.old.seen ++ entry_of pass.old.number W.work ∷ []) }
+    requires room { length pass.old.seen + 1 < 2 ^ 64 }
+    ensures { pass.new ≡ pass_view pass.old.number (pass.old.seen ++ entry_of pass.old.number W.work ∷ []) true [] (pass.old.own ++ entry_of pass.old.number W.work ∷ []) }
+{
+    append::<N, Brand>(word, pass);
+}
+
+/// Ends a hold in which a call of the store did the work that `W` names. `before` and `after` are the store's counts of changes. Where the
+/// count moved, the change is put at the end of the history; then the keeper takes the lead back. `_told` is what a caller that passes
+/// `Brand` picks the work from; it is for the proof alone.
+pub fn close<N: TableName, W: Working, T>(
+    word: &Word<N>,
+    keeper: &mut Seat<N>,
+    pass: &mut Seat<N>,
+    before: u64,
+    after: u64,
+    _told: &T,
+)
+    requires keeper { keeper.old ≡ keeper_view keeper.old.made keeper.old.seen false }
+    requires pass { pass.old ≡ pass_view pass.old.number pass.old.seen true [] pass.old.own }
+    requires own { own pass.old.number pass.old.seen ≡ pass.old.own }
+    requires legal { GraphLegal N.limits pass.old.seen }
+    requires counts { (before ≡ W.work.old.changes) × (after ≡ W.work.new.changes) }
+    requires did { Did N.limits pass.old.seen W.work }
+    ensures keeper { keeper.new ≡ keeper_view keeper.old.made pass.new.seen true }
+    ensures pass { pass.new ≡ pass_view pass.old.number pass.new.seen false [] pass.new.own }
+    ensures closed { Closed N.limits pass.old.number pass.old.seen W.work pass.new.seen pass.new.own }
+{
+    if after == before {
+        leave(word, keeper, pass);
+        return;
+    }
+    note_change::<N, W>(word, pass);
+    leave(word, keeper, pass);
 }
 
 /// Two passes meet: each has then seen the longer of their lists, which the other begins. Nobody waits.

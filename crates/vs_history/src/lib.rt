@@ -8,7 +8,7 @@ mod seat;
 mod steps;
 mod view;
 
-pub use hold::{enter, leave, meet};
+pub use hold::{Working, close, enter, leave, meet};
 pub use name::{HistoryLimits, TableName};
 pub use seat::{Opened, Seat, Word};
 pub use steps::{end, make};
