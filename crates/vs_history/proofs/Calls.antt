@@ -1,11 +1,11 @@
 -- What a call of the store did in a hold, as a call of a pass in a history.
-use Rattle.std.proofs.Common.{◌≡◌, ◌≢◌, ◌⊎◌, ℕ, ◌≤◌, List, [], ◌∷◌, ◌++◌, length, Option, Some, None, refl, sym, ap, ◌∙◌, subst, inl, inr, ⊎_elim, arith, append_assoc, append-nil, length-append}
-use Rattle.std.specs.Prelude.{IfSome, All, ◌==◌}
+use Rattle.std.proofs.Common.{◌≡◌, ◌≢◌, ℕ, ◌≤◌, List, [], ◌∷◌, ◌++◌, length, Option, Some, None, refl, sym, ap, ◌∙◌, subst, inl, inr, ⊎_elim, arith, append_assoc, append-nil, length-append}
+use Rattle.std.specs.Prelude.{IfSome, ◌==◌}
 use Rattle.std.proofs.lemmas.List.Elements.{filter-append, All-push}
 use mathlib.Core.List.{IsPrefix}
 use Rattle.vs_defs.specs.Bounds.{IsInBounds}
 use Rattle.vs_defs.specs.Read.{draws}
-use Rattle.vs_defs.specs.Request.{Request, Answer}
+use Rattle.vs_defs.specs.Request.{Request}
 use Rattle.vs_defs.specs.Store.{Store, Set, Limits, empty_store}
 use Rattle.vs_defs.specs.Good.{GoodStore}
 use Rattle.vs_defs.specs.Step.{Step, Drafted}
@@ -18,7 +18,7 @@ use Rattle.vs_defs.specs.History.{Entry, Preparation, LegalAfter, own}
 use Rattle.vs_thread_defs.specs.Machine.{GraphHistory, GraphLegal, GraphCall, DraftFits, Follows, IsGoodThroughout, StoreDoes, store_of}
 use Rattle.vs_thread_defs.specs.Passes.{OfItsChange, Watches}
 use Rattle.vs_history.specs.Work.{Work, entry_of, answer_in, DoesBy, Did, Closed}
-use Rattle.vs_history.proofs.Beginnings.{prefix_self, prefix_trans, prefix_push, same_last}
+use Rattle.vs_history.proofs.Beginnings.{prefix_trans, prefix_push, same_last}
 use Rattle.vs_history.proofs.Histories.{store_push, legal_begin, legal_push, own-push-own}
 
 module _ (limits : Limits) where

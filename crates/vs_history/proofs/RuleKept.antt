@@ -7,7 +7,7 @@ use lib.ListN.{get_elem?}
 use native.Mathlib.Decide.{ℕ_discrete}
 use Rattle.std.proofs.lemmas.Bool.Decides.{nat_tests}
 use Rattle.atomic_table.specs.Table.{State, Me, keeps, Allows, Splits, Joins, opening}
-use Rattle.atomic_table.proofs.Lists.{at_set, set_again, set_here, set_else, at_longer, at_last}
+use Rattle.atomic_table.proofs.Lists.{at_set, set_here, set_else, at_longer, at_last}
 use Rattle.vs_defs.specs.History.{History, Entry, Legal, own}
 use Rattle.vs_thread_defs.specs.Rule.{View, keeper, pass, note, nobody, picked, unled, counted, taken, returned, settled, appended, AllBegin, Fits, Led, Kept, Settled, Appended}
 use Rattle.vs_history.proofs.Beginnings.{prefix_self, prefix_trans, prefix_push, each_set, each_push}

@@ -1,4 +1,4 @@
-use Rattle.std.proofs.Common.{◌≡◌, ℕ, ◌<◌, ◌+◌, ◌++◌, ◌∷◌, [], false, length, sym, ap, ◌∙◌, subst, arith, length-append}
+use Rattle.std.proofs.Common.{◌∷◌, [], false, sym, ap, ◌∙◌, subst, arith, length-append}
 use Rattle.vs_thread_defs.specs.Rule.{pass}
 use Rattle.vs_history.specs.Seats.{HistoryView}
 use Rattle.vs_history.specs.Work.{entry_of, Closed}

@@ -1,4 +1,4 @@
-use Rattle.std.proofs.Common.{◌≡◌, [], false, refl, sym, ap, ◌∙◌, subst}
+use Rattle.std.proofs.Common.{◌≡◌, [], false, refl, ap, ◌∙◌, subst}
 use Rattle.vs_defs.specs.History.{own}
 use Rattle.vs_thread_defs.specs.Machine.{Follows}
 use Rattle.vs_thread_defs.specs.Rule.{pass, note, longer, unled, taken, Settled}

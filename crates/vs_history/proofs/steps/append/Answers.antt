@@ -1,4 +1,4 @@
-use Rattle.std.proofs.Common.{◌≡◌, ◌++◌, ◌∷◌, [], length, sym, ap, subst, ◌∙◌, arith}
+use Rattle.std.proofs.Common.{◌++◌, ◌∷◌, [], length, sym, ap, subst, ◌∙◌, arith}
 use Rattle.vs_thread_defs.specs.Machine.{Follows, GraphLegal}
 use Rattle.vs_defs.specs.Store.{Limits}
 use Rattle.vs_history.specs.Seats.{HistoryView}

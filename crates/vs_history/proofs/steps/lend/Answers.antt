@@ -1,6 +1,5 @@
 use Rattle.std.proofs.Common.{sym, ◌∙◌, arith}
 use Rattle.vs_thread_defs.specs.Machine.{Follows}
-use Rattle.vs_history.specs.Seats.{HistoryView}
 use Rattle.vs_history.proofs.RuleKept.{shares}
 use Rattle.vs_history.proofs.steps.lend.Goals as goal
 

@@ -1,4 +1,4 @@
-use Rattle.std.proofs.Common.{◌≡◌, sym, ap, ◌∙◌, arith}
+use Rattle.std.proofs.Common.{sym, ap, ◌∙◌, arith}
 use Rattle.vs_thread_defs.specs.Machine.{Follows}
 use Rattle.vs_history.specs.Seats.{HistoryView}
 use Rattle.vs_history.proofs.RuleKept.{takes}
