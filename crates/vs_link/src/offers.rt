@@ -35,10 +35,7 @@ fn yielding<N: Nodes, L: Ledger>(
     ensures told { reads.new ≡ reads.old + length (links_of own.now layer) + 1 }
 {
     let words = own.body.bits();
-    let near = distance(
-        words,
-        live_node(edit, base, x, reads).body.bits(),
-    );
+    let near = distance(words, live_node(edit, base, x, reads).body.bits());
     match farthest_of(edit, base, words, links(own, layer), reads) {
         Some(far) if near < far.dist && degree(far.node, layer) > 1 => Some(far.id),
         _ => None,

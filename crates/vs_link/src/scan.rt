@@ -26,10 +26,7 @@ pub(crate) struct Near<'a> {
 fn order(a: Near, b: Near) -> Ordering
     ensures { result ≡ near_cmp a.entry b.entry }
 {
-    let names = a
-        .node
-        .body.name()
-        .cmp(b.node.body.name());
+    let names = a.node.body.name().cmp(b.node.body.name());
     a.dist.cmp(&b.dist).then(names)
 }
 
