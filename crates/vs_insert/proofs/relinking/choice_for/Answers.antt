@@ -52,12 +52,12 @@ select-requires-clause-live g c =
     let is : IsStart now c.args.entry y start = subst (λ f. IsStart (overwritten c.args.edit.now f) c.args.entry y start) same
     (c.start_of-start.ensures c.requires.another.0 c.requires.another.1 (another_live base at c.args.edit.now layer y same c.requires.another)) in
     let may = start_may now c.args.entry layer y start is c.requires.top c.requires.stands c.requires.another in
-    let beam : IsBeam at layer start c.as_slice-query.result.now 200 0 everyone f.tried f.expanded f.found = subst (λ n. IsBeam at layer start c.as_slice-query.result.now n 0 everyone f.tried f.expanded f.found) c.requires.wide
+    let beam : IsBeam at layer start c.bits-query.result.now 200 0 everyone f.tried f.expanded f.found = subst (λ n. IsBeam at layer start c.bits-query.result.now n 0 everyone f.tried f.expanded f.found) c.requires.wide
     (c.in_ok-search.ensures.beam everyone c.requires.everyone) in
     let left : c.as_slice-2.result.now ≡ others_of now y f.found =
     c.as_slice-2.ensures ∙ c.in_ok-left.ensures ∙ ap (λ a. others_of (overwritten c.args.edit.now a) y c.as_slice.result.now) same ∙ ap (others_of now y) c.as_slice.ensures in
     live_over (overwritten c.new-unchanged.result base) at c.as_slice-2.result.now (others_of now y f.found) (no_change c.new-unchanged.result base c.new-unchanged.ensures ∙ same) left
-    (left_live at now c.requires.without.0 y layer start s.m s.dim c.as_slice-query.result.now f.tried f.expanded f.found c.requires.without.1 c.requires.links beam may.0 may.1)
+    (left_live at now c.requires.without.0 y layer start s.m s.dim c.bits-query.result.now f.tried f.expanded f.found c.requires.without.1 c.requires.links beam may.0 may.1)
 
 pub returns : goal.returns
 returns g c =
@@ -75,7 +75,7 @@ returns g c =
     (c.start_of-start.ensures c.requires.another.0 c.requires.another.1 (another_live base at c.args.edit.now layer y same c.requires.another)) in
     let may = start_may now c.args.entry layer y start is c.requires.top c.requires.stands c.requires.another in
     let was : now y ≡ Some c.live_node.result.now = subst (λ a. overwritten c.args.edit.now a y ≡ Some c.live_node.result.now) same c.live_node.ensures.value in
-    let query : c.as_slice-query.result.now ≡ words_at (body_at now) y = c.as_slice-query.ensures ∙ ap (λ b. b.bits) c.get.ensures ∙ sym (words_there now y c.live_node.result.now was) in
+    let query : c.bits-query.result.now ≡ words_at (body_at now) y = c.bits-query.ensures ∙ sym (words_there now y c.live_node.result.now was) in
     let q = words_at (body_at now) y in
     let beam : IsBeam at layer start q 200 0 everyone f.tried f.expanded f.found = subst (λ n. IsBeam at layer start q n 0 everyone f.tried f.expanded f.found) c.requires.wide
     (subst (λ w. IsBeam at layer start w c.args.ef 0 everyone f.tried f.expanded f.found) query (c.in_ok-search.ensures.beam everyone c.requires.everyone)) in

@@ -20,12 +20,12 @@ survey-found-requires-clause-live g c =
 pub survey-found-requires-clause-from : goal.survey-found-requires-clause-from
 survey-found-requires-clause-from g c =
     let at = overwritten c.args.edit.now (g.N.Nodes.at c.args.base.now) in
-    (c.args.y, ap is_some c.in_ok-own.ensures.value, c.as_slice-from.ensures ∙ ap (λ b. b.bits) c.get.ensures ∙ sym (words_there at c.args.y c.in_ok-own.own c.in_ok-own.ensures.value))
+    (c.args.y, ap is_some c.in_ok-own.ensures.value, c.bits-from.ensures ∙ sym (words_there at c.args.y c.in_ok-own.own c.in_ok-own.ensures.value))
 
 pub survey-found-requires-clause-to : goal.survey-found-requires-clause-to
 survey-found-requires-clause-to g c =
     let at = overwritten c.args.edit.now (g.N.Nodes.at c.args.base.now) in
-    (c.args.x, ap is_some c.live_node.ensures.value, c.as_slice-to.ensures ∙ ap (λ b. b.bits) c.get-2.ensures ∙ sym (words_there at c.args.x c.live_node.result.now c.live_node.ensures.value))
+    (c.args.x, ap is_some c.live_node.ensures.value, c.bits-to.ensures ∙ sym (words_there at c.args.x c.live_node.result.now c.live_node.ensures.value))
 
 pub live_copy-requires-in-Some-default : goal.live_copy-requires-in-Some-default
 live_copy-requires-in-Some-default g c =
@@ -33,7 +33,7 @@ live_copy-requires-in-Some-default g c =
     let t = links_at at c.args.layer in
     let z = c.in-Some-default.z in
     let same : t c.args.y ≡ c.links.result.now = links_there at c.args.layer c.args.y c.in_ok-own.own c.in_ok-own.ensures.value ∙ sym c.links.ensures in
-    let to : c.as_slice-to.result.now ≡ words_at (body_at at) c.args.x = c.as_slice-to.ensures ∙ ap (λ b. b.bits) c.get-2.ensures ∙ sym (words_there at c.args.x c.live_node.result.now c.live_node.ensures.value) in
+    let to : c.bits-to.result.now ≡ words_at (body_at at) c.args.x = c.bits-to.ensures ∙ sym (words_there at c.args.x c.live_node.result.now c.live_node.ensures.value) in
     let picked : nearest (body_at at) c.args.x (filter (has_room c.args.most t) c.links.result.now) ≡ Some z = sym (c.survey-found.ensures.roomy c.args.x to) ∙ c.in-Some-default.is-0 in
     let inside : list_any (nat_eq z) c.links.result.now ≡ true = (filter_in (has_room c.args.most t) z c.links.result.now (nearest_in (body_at at) c.args.x (filter (has_room c.args.most t) c.links.result.now) z picked)).0 in
     live_from_layers at c.args.layer z (c.requires.good.stand c.args.y z (subst (λ l. list_any (nat_eq z) l ≡ true) (sym same) inside))
@@ -44,7 +44,7 @@ join-requires-in-Some-default-clause-y_stands g c =
     let t = links_at at c.args.layer in
     let z = c.in-Some-default.z in
     let same : t c.args.y ≡ c.links.result.now = links_there at c.args.layer c.args.y c.in_ok-own.own c.in_ok-own.ensures.value ∙ sym c.links.ensures in
-    let to : c.as_slice-to.result.now ≡ words_at (body_at at) c.args.x = c.as_slice-to.ensures ∙ ap (λ b. b.bits) c.get-2.ensures ∙ sym (words_there at c.args.x c.live_node.result.now c.live_node.ensures.value) in
+    let to : c.bits-to.result.now ≡ words_at (body_at at) c.args.x = c.bits-to.ensures ∙ sym (words_there at c.args.x c.live_node.result.now c.live_node.ensures.value) in
     let picked : nearest (body_at at) c.args.x (filter (has_room c.args.most t) c.links.result.now) ≡ Some z = sym (c.survey-found.ensures.roomy c.args.x to) ∙ c.in-Some-default.is-0 in
     let inside : list_any (nat_eq z) c.links.result.now ≡ true = (filter_in (has_room c.args.most t) z c.links.result.now (nearest_in (body_at at) c.args.x (filter (has_room c.args.most t) c.links.result.now) z picked)).0 in
     c.requires.good.stand c.args.y z (subst (λ l. list_any (nat_eq z) l ≡ true) (sym same) inside)
@@ -55,7 +55,7 @@ displace-requires-clause-w_stands g c =
     let t = links_at at c.args.layer in
     let w = c.in-None-Some.w in
     let same : t c.args.y ≡ c.links.result.now = links_there at c.args.layer c.args.y c.in_ok-own.own c.in_ok-own.ensures.value ∙ sym c.links.ensures in
-    let from : c.as_slice-from.result.now ≡ words_at (body_at at) c.args.y = c.as_slice-from.ensures ∙ ap (λ b. b.bits) c.get.ensures ∙ sym (words_there at c.args.y c.in_ok-own.own c.in_ok-own.ensures.value) in
+    let from : c.bits-from.result.now ≡ words_at (body_at at) c.args.y = c.bits-from.ensures ∙ sym (words_there at c.args.y c.in_ok-own.own c.in_ok-own.ensures.value) in
     let picked : farthest (body_at at) c.args.y c.links.result.now ≡ Some w = sym (c.survey-found.ensures.farthest c.args.y from) ∙ c.in-None-Some.is-1 in
     c.requires.good.stand c.args.y w (subst (λ l. list_any (nat_eq w) l ≡ true) (sym same) (farthest_in (body_at at) c.args.y c.links.result.now w picked))
 
@@ -66,7 +66,7 @@ returns-in_ok-other-in-Some-default-clause-links g c =
     let t = links_at at c.args.layer in
     let z = c.in-Some-default.z in
     let same : t c.args.y ≡ c.links.result.now = links_there at c.args.layer c.args.y c.in_ok-own.own c.in_ok-own.ensures.value ∙ sym c.links.ensures in
-    let to : c.as_slice-to.result.now ≡ words_at (body_at at) c.args.x = c.as_slice-to.ensures ∙ ap (λ b. b.bits) c.get-2.ensures ∙ sym (words_there at c.args.x c.live_node.result.now c.live_node.ensures.value) in
+    let to : c.bits-to.result.now ≡ words_at (body_at at) c.args.x = c.bits-to.ensures ∙ sym (words_there at c.args.x c.live_node.result.now c.live_node.ensures.value) in
     let picked : nearest (body_at at) c.args.x (filter (has_room c.args.most t) (t c.args.y)) ≡ Some z =
     ap (λ l. nearest (body_at at) c.args.x (filter (has_room c.args.most t) l)) same ∙ sym (c.survey-found.ensures.roomy c.args.x to) ∙ c.in-Some-default.is-0 in
     let full : c.args.most ≤ length (t c.args.y) = omega (arith, c.if-degree-most.false, c.degree.ensures, ap length (links_there at c.args.layer c.args.y c.in_ok-own.own c.in_ok-own.ensures.value)) in

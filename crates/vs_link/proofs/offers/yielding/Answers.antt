@@ -14,4 +14,4 @@ farthest_of-requires-clause-live g c =
 pub farthest_of-requires-clause-words : goal.farthest_of-requires-clause-words
 farthest_of-requires-clause-words g c =
     let at = overwritten c.args.edit.now (g.N.Nodes.at c.args.base.now) in
-    (c.args.y, ap is_some c.requires.there, c.as_slice-words.ensures ∙ ap (λ b. b.bits) c.get.ensures ∙ sym (words_there at c.args.y c.args.own.now c.requires.there))
+    (c.args.y, ap is_some c.requires.there, c.bits-words.ensures ∙ sym (words_there at c.args.y c.args.own.now c.requires.there))

@@ -39,9 +39,9 @@ loop-other-preserved c =
     let made : c.push.new.self.items ≡ found ++ candidate ∷ [] = c.in_ok-push.ensures.items in
     let unlinked : has_link places layer ranked one other ≡ false =
     ap (λ o. list_any (nat_eq (get_or ranked other 0)) (option_map_or (λ node. links_of node layer) o [])) c.node_at-a.ensures ∙ sym c.is_linked.ensures ∙ c.if-is_linked.false in
-    let words_one : c.as_slice.result.now ≡ words_at (body_at places) one = c.as_slice.ensures ∙ ap (λ b. b.bits) c.get.ensures ∙ sym (words_there places one c.node_at-a.result.now c.node_at-a.ensures) in
-    let words_other : c.as_slice-in-loop-other.result.now ≡ words_at (body_at places) other =
-    c.as_slice-in-loop-other.ensures ∙ ap (λ b. b.bits) c.get-in-loop-other.ensures ∙ sym (words_there places other c.node_at-b.result.now c.node_at-b.ensures) in
+    let words_one : c.bits.result.now ≡ words_at (body_at places) one = c.bits.ensures ∙ sym (words_there places one c.node_at-a.result.now c.node_at-a.ensures) in
+    let words_other : c.bits-in-loop-other.result.now ≡ words_at (body_at places) other =
+    c.bits-in-loop-other.ensures ∙ sym (words_there places other c.node_at-b.result.now c.node_at-b.ensures) in
     let dist : c.distance-dist.result ≡ gap (body_at places) one other = c.distance-dist.ensures ∙ (λ i. words_ham (words_one i) (words_other i)) in
     let is : IsPlaced places layer ranked candidate = record { order = omega arith; within = omega arith; dist = dist; unlinked = unlinked } in
     record {
