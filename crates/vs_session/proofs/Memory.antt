@@ -15,7 +15,7 @@ use Rattle.vs_command.specs.Answers.{answer_of}
 use Rattle.vs_command.specs.Outcomes.{outcome_of, refused_by}
 use Rattle.vs_command.specs.Refusals.{refusal_of}
 use Rattle.vs_reply.specs.Replies.{short_of}
-use Rattle.vs_plain_store.specs.Memory.{takes_no_memory}
+use Rattle.vs_defs.specs.Memory.{needs_no_memory}
 use Rattle.vs_connection.specs.Stage.{read, draws}
 use Rattle.vs_connection.proofs.Pings.{asks}
 use Rattle.vs_session.proofs.Changes.{number_is_short}
@@ -77,10 +77,10 @@ out_of_memory (Err e) is = ap Err (no_cause e (by_cause (refusal_of e) is)) wher
   by_cause None same = refl
   by_cause (Some cause) same = cc
 
-pub answered : (m : Message) (r : request.Request) (result : Result Answer Refusal) → read m ≡ Ok r → (takes_no_memory r ≡ true → result ≢ Err NoMemory) →
+pub answered : (m : Message) (r : request.Request) (result : Result Answer Refusal) → read m ≡ Ok r → (needs_no_memory r ≡ true → result ≢ Err NoMemory) →
     IsTrue (is_ping_or_quit m) → outcome_of result ≢ outcome.OutOfMemory
 answered m r result is memory ping same =
-    let none : takes_no_memory r ≡ true = elim (asked m r ping is) [ inl e ↦ ap takes_no_memory e | inr e ↦ ap takes_no_memory e ] in
+    let none : needs_no_memory r ≡ true = elim (asked m r ping is) [ inl e ↦ ap needs_no_memory e | inr e ↦ ap needs_no_memory e ] in
     memory none (out_of_memory result same)
 
 -- by a short reply

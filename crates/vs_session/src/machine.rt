@@ -8,7 +8,7 @@ ghost use Rattle.vs_defs.specs.Store.{PlainStore};
 ghost use Rattle.vs_command.specs.Outcomes.{outcome_of};
 ghost use Rattle.vs_command.specs.Requests.{request_of};
 ghost use Rattle.vs_command.specs.Scores.{HasScores};
-ghost use Rattle.vs_plain_store.specs.Memory.{takes_no_memory};
+ghost use Rattle.vs_defs.specs.Memory.{needs_no_memory};
 
 use vs_command::{Answer, Refusal, Request};
 
@@ -24,5 +24,5 @@ pub trait Machine {
         requires plain { is_plain (request_of request) ≡ true }
         ensures does { PlainDoes (store self.old) (request_of request) words.now (outcome_of result) (store self.new) }
         ensures scores { IfOk result HasScores }
-        ensures memory { takes_no_memory (request_of request) ≡ true → result ≢ Err Refusal.NoMemory };
+        ensures memory { needs_no_memory (request_of request) ≡ true → result ≢ Err Refusal.NoMemory };
 }
