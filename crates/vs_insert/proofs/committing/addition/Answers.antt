@@ -18,7 +18,7 @@ join_layers-requires-clause-good g c =
     let base = g.N.Nodes.at c.nodes-nodes.result.now in
     let s = c.args.graph.now in
     let d = c.args.draft in
-    let node : Node = record { body = d.body; attr = c.args.attr; level = d.level; links = c.in_ok-no_links.field-0 } in (
+    let node : Node = record { body = d.body; attr = c.args.attr; level = d.level; links = c.in_ok-new.field-0 } in (
       s.dim,
       c.nodes-nodes.ensures.good.dim_high,
       links_put c.new-edit.result c.put_newcomer.new.edit base (g.N.Nodes.at s.nodes) (ap g.N.Nodes.at c.nodes-nodes.ensures.nodes) c.new-edit.ensures s.m c.m.result s.dim node c.m.ensures.m c.nodes-nodes.ensures.good.links c.requires.fits
@@ -33,10 +33,10 @@ returns-clause-good g c =
     let id = c.args.id in
     let at = g.N.Nodes.at s.nodes in
     let same : base ≡ at = ap g.N.Nodes.at c.nodes-nodes.ensures.nodes in
-    let node : Node = record { body = d.body; attr = c.args.attr; level = d.level; links = c.in_ok-no_links.field-0 } in
+    let node : Node = record { body = d.body; attr = c.args.attr; level = d.level; links = c.in_ok-new.field-0 } in
     let mid = overwritten c.put_newcomer.new.edit at in
     let new = overwritten c.join_layers.new.edit at in
-    let newcomer : IsNewcomer at id node = record { free = c.requires.free; small = c.requires.small; level = c.requires.level; lists = c.in_ok-no_links.ensures; name = c.requires.name } in
+    let newcomer : IsNewcomer at id node = record { free = c.requires.free; small = c.requires.small; level = c.requires.level; lists = c.in_ok-new.ensures; name = c.requires.name } in
     let change : ChangesAt at mid id (Some node) = change_at c.new-edit.result c.put_newcomer.new.edit base at same c.new-edit.ensures id node c.in_ok-put_newcomer.ensures.put in
     let j : IsJoinedFrom mid new s.m id s.entry d.chosen 0 = joined_at c.put_newcomer.new.edit c.join_layers.new.edit base at c.m.result s.m id c.entry-entry.result s.entry c.as_slice.result.now d.chosen same c.m.ensures.m c.entry-entry.ensures.entry c.as_slice.ensures
     c.in_ok-join_layers.ensures.joined in
@@ -57,10 +57,10 @@ returns-clause-added g c =
     let id = c.args.id in
     let at = g.N.Nodes.at s.nodes in
     let same : base ≡ at = ap g.N.Nodes.at c.nodes-nodes.ensures.nodes in
-    let node : Node = record { body = d.body; attr = c.args.attr; level = d.level; links = c.in_ok-no_links.field-0 } in
+    let node : Node = record { body = d.body; attr = c.args.attr; level = d.level; links = c.in_ok-new.field-0 } in
     let mid = overwritten c.put_newcomer.new.edit at in
     let new = overwritten c.join_layers.new.edit at in
-    let newcomer : IsNewcomer at id node = record { free = c.requires.free; small = c.requires.small; level = c.requires.level; lists = c.in_ok-no_links.ensures; name = c.requires.name } in
+    let newcomer : IsNewcomer at id node = record { free = c.requires.free; small = c.requires.small; level = c.requires.level; lists = c.in_ok-new.ensures; name = c.requires.name } in
     let change : ChangesAt at mid id (Some node) = change_at c.new-edit.result c.put_newcomer.new.edit base at same c.new-edit.ensures id node c.in_ok-put_newcomer.ensures.put in
     let j : IsJoinedFrom mid new s.m id s.entry d.chosen 0 = joined_at c.put_newcomer.new.edit c.join_layers.new.edit base at c.m.result s.m id c.entry-entry.result s.entry c.as_slice.result.now d.chosen same c.m.ensures.m c.entry-entry.ensures.entry c.as_slice.ensures
     c.in_ok-join_layers.ensures.joined in
