@@ -16,6 +16,7 @@ ghost use Rattle.vs_session.specs.After.{After};
 use crate::Machine;
 use rand_pcg::Lcg64Xsh32;
 use std::alloc::Global;
+use std::mem;
 use vs_command::{Answer, Refusal, draws, read_request};
 use vs_connection::{Handler, Replied, draw, write_all};
 use vs_outside::{Sink, Text};
@@ -29,6 +30,9 @@ pub struct Server<M> {
     generator: Lcg64Xsh32,
     reply: Text,
 }
+
+/// The most bytes of memory that the buffer for replies keeps from one reply to the next.
+const KEPT_BYTES: usize = 65_536;
 
 impl<M: Machine> Server<M> {
     /// A server of this machine. It takes no memory.
@@ -59,6 +63,15 @@ impl<M: Machine> Server<M> {
         let words = draw(self.alloc, &mut self.generator, draws(&request))?;
         self.machine.do_now(request, words.as_slice())
     }
+}
+
+// A buffer for the next reply: this one, unless a long reply has made it large.
+fn kept(alloc: Global, buffer: Text) -> Text {
+    let bytes = buffer.into_vec();
+    if bytes.capacity() > KEPT_BYTES {
+        return Text::new(alloc);
+    }
+    Text::from_vec(bytes)
 }
 
 // Whether it is the answer of QUIT.
@@ -117,7 +130,12 @@ impl<M: Machine> Handler for Server<M> {
             return write_line(short.as_slice(), is_quit(&outcome), sink);
         }
         match &outcome {
-            Ok(answer) => write_answer(&mut self.reply, answer, sink),
+            Ok(answer) => {
+                let replied = write_answer(&mut self.reply, answer, sink);
+                let buffer = mem::replace(&mut self.reply, Text::new(self.alloc));
+                self.reply = kept(self.alloc, buffer);
+                replied
+            }
             Err(_) => unreachable!(),
         }
     }

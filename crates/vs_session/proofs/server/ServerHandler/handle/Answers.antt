@@ -19,8 +19,8 @@ returns-in-Some-clause-served g c h k after own =
 pub returns-clause-served : goal.returns-clause-served
 returns-clause-served g c h k after own =
     let now = After (g.M.Machine.store c.carry_out-outcome.new.self.machine) c.carry_out-outcome.new.self.generator in
-    let replied = IsReplied c.write_answer.result (g.K.Sink.written c.args.sink.now) (g.K.Sink.written c.write_answer.new.sink) in
-    elim c.write_answer.ensures.replied [
+    let replied = IsReplied c.write_answer-replied.result (g.K.Sink.written c.args.sink.now) (g.K.Sink.written c.write_answer-replied.new.sink) in
+    elim c.write_answer-replied.ensures.replied [
       | inl r ↦ with_reply now (outcome_of c.carry_out-outcome.result) replied k h c.args.message.now (c.carry_out-outcome.ensures.served h k after own)
           (subst replied (sym (ap outcome_of c.in-Ok.is)) r)
       | inr r ↦ with_reply now outcome.OutOfMemory replied k h c.args.message.now (c.carry_out-outcome.ensures.long (sym c.in_default.ensures) h k after own) r
