@@ -2,6 +2,12 @@
 #![tactic(auto)]
 
 #[cfg(test)]
+mod conversation;
+#[cfg(test)]
+mod interaction;
+#[cfg(test)]
+mod limits;
+#[cfg(test)]
 mod pipeline;
 #[cfg(test)]
 mod requests;
