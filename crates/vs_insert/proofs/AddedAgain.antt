@@ -3,7 +3,7 @@ use Rattle.std.proofs.Common.{◌≡◌, ◌≢◌, ℕ, List, sym, ap, ◌∙�
 use Rattle.std.specs.Prelude.{Some, None, is_some, IsSomeAnd, option_map}
 use Rattle.std.specs.Option.{option_map_or}
 use Rattle.std.specs.declared.option.Option.{Option}
-use Rattle.vs_defs.specs.Store.{with_replaced}
+use Rattle.vs_defs.specs.Store.{with_replaced, no_member}
 use Rattle.vs_defs.specs.Words.{bits_of_words}
 use Rattle.vs_graph.specs.declared.node.Node.{Node}
 use Rattle.vs_graph.specs.declared.node.Attr.{Attr}
@@ -12,7 +12,7 @@ use Rattle.vs_graph.specs.Standing.{AreIds, member_of_node, member_at, members_o
 use Rattle.vs_graph.proofs.Replacing.{placed, same_ids}
 use Rattle.vs_graph.proofs.Standing.{member_name}
 use Rattle.vs_unlink.specs.Unlinked.{IsWithout}
-use Rattle.vs_unlink.proofs.Leavings.{no_member, same_member_by}
+use Rattle.vs_unlink.proofs.Leavings.{same_member_by}
 use Rattle.vs_insert.specs.declared.draft.Draft.{Draft}
 use Rattle.vs_insert.specs.Added.{IsAdded}
 use Rattle.vs_insert.specs.Chosen.{drafted_member}
