@@ -4,7 +4,7 @@ use Rattle.vs_graph.specs.Good.{AreLinksGood}
 use Rattle.vs_graph.proofs.Renaming.{no_change}
 use Rattle.vs_unlink.specs.Unlinked.{IsWithout}
 use Rattle.vs_insert.proofs.Choices.{links_over}
-use Rattle.vs_insert.proofs.Orphans.{some_node}
+use Rattle.vs_unlink.proofs.Remaining.{some_node}
 use Rattle.vs_insert_tests.proofs.Without.{without_one, good_without}
 use Rattle.vs_insert_tests.proofs.removing.removal.Goals as goal
 
