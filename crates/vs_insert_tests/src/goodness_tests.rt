@@ -5,13 +5,15 @@ use super::*;
 use std::alloc::Global;
 use std::marker::Brand;
 use std::sync::ledger::{Blank, Ledger};
-use vs_graph::{Edit, ListNodes, Node, Nodes, Steps};
-use vs_outside::{List, NoMemory};
+use vs_graph::{Edit, LayerLinks, ListNodes, Node, Nodes, Steps};
+use vs_outside::NoMemory;
 
 /// A member of level 0 with these links.
 fn linked(alloc: Global, name: &[u8], ids: &[u32]) -> Result<Node, NoMemory> {
-    let mut links = List::new(alloc);
-    links.push(List::from_slice(alloc, ids)?)?;
+    let mut links = LayerLinks::new(alloc, 0)?;
+    for id in ids {
+        links.push(0, *id)?;
+    }
     Ok(Node {
         body: body_of(alloc, name, 0)?,
         attr: None,
