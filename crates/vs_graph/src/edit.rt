@@ -26,6 +26,15 @@ pub struct Edit {
     ghost ends: { (id : ℕ) → IsSome (said ids.items nodes.items more id) → id < end },
 }
 
+/// What an edit says: the ids that are listed, each with its node beside it, of which the last place of an id counts, and the nodes of
+/// other ids. None for a node frees its id.
+#[derive(Drop)]
+pub struct Changes {
+    pub ids: Vec<u32>,
+    pub nodes: Vec<Option<Node>>,
+    pub more: BTreeMap<u32, Option<Node>>,
+}
+
 /// The last place at which an id is listed.
 fn place_of(ids: &[u32], id: u32) -> Option<usize>
     ensures some { IfSome result (IsLastAt ids.now id) }
@@ -44,7 +53,7 @@ fn place_of(ids: &[u32], id: u32) -> Option<usize>
 impl Edit {
     ghost use Rattle.std.specs.Prelude.{◌≡◌, ◌≢◌, ◌+◌, ◌<◌, ℕ, length, Some, None, OnOk, OnErr, IsSome, IsSomeAnd, option_map};
     ghost use Rattle.std.specs.Option.{option_copied, option_flatten};
-    ghost use Rattle.vs_graph.specs.Said.{listed};
+    ghost use Rattle.vs_graph.specs.Said.{listed, said};
     ghost use Rattle.vs_graph.specs.Edits.{changed, overwritten, SaysAt};
     ghost use Rattle.vs_graph.specs.NodeMap.{list_at};
     ghost use Rattle.vs_graph.specs.Relinks.{relinked};
@@ -66,6 +75,20 @@ impl Edit {
         ensures { (id : ℕ) → IsSome (changed self.now id) → id < result }
     {
         self.end
+    }
+
+    /// What it says, without a copy. It takes no memory.
+    pub fn into_changes(self) -> Changes
+        ensures beside { length result.ids.items ≡ length result.nodes.items }
+        ensures said { (id : ℕ) → said result.ids.items result.nodes.items result.more id ≡ changed self id }
+    {
+        let Edit {
+            ids,
+            nodes,
+            more,
+            end: _,
+        } = self;
+        Changes { ids, nodes, more }
     }
 
     /// What the edit itself says of an id.
@@ -91,17 +114,6 @@ impl Edit {
         Ok(())
     }
 
-    /// Says the node of an id that is not listed in the map.
-    fn map(&mut self, id: u32, node: Option<Node>) -> Result<(), NoMemory>
-        requires { listed self.old.ids.items self.old.nodes.items id ≡ None }
-        ensures ok { OnOk result (SaysAt self.old self.new id node) }
-        ensures err { OnErr result ((q : ℕ) → changed self.new q ≡ changed self.old q) }
-    {
-        self.more.insert(id, node)?;
-        self.end = self.end.max(u64::from(id) + 1);
-        Ok(())
-    }
-
     /// Says the node of an id that is not listed.
     fn say_unlisted(&mut self, id: u32, node: Option<Node>) -> Result<(), NoMemory>
         requires { listed self.old.ids.items self.old.nodes.items id ≡ None }
@@ -109,10 +121,11 @@ impl Edit {
         ensures err { OnErr result ((q : ℕ) → changed self.new q ≡ changed self.old q) }
     {
         if self.ids.len() < LISTED {
-            self.list(id, node)
-        } else {
-            self.map(id, node)
+            return self.list(id, node);
         }
+        self.more.insert(id, node)?;
+        self.end = self.end.max(u64::from(id) + 1);
+        Ok(())
     }
 
     fn say(&mut self, id: u32, node: Option<Node>) -> Result<(), NoMemory>
