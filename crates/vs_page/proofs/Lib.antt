@@ -2,3 +2,5 @@ pub mod Trees
 pub mod Entries
 pub mod Listings
 pub mod Below
+pub mod FirstItems
+pub mod Puts

@@ -1,3 +1,4 @@
 pub mod Tree
 pub mod Changes
 pub mod PagedNodes
+pub mod FirstItems

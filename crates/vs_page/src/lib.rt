@@ -4,6 +4,7 @@
 mod copied;
 mod draining;
 mod opening;
+mod page_list;
 mod page_map;
 mod page_nodes;
 mod placing;
@@ -13,5 +14,6 @@ mod shared_list;
 mod tests;
 
 pub use copied::Copied;
+pub use page_list::PageList;
 pub use page_map::{Change, PageMap};
 pub use page_nodes::PageNodes;

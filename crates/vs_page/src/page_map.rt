@@ -1,7 +1,7 @@
 //! A map whose pages copies share. A change first makes the ways to its places its own, which changes nothing of what the map means, and then
 //! takes the changes over at one stroke; only then they move into their places. So a refused change leaves the map as it was, and a copy keeps
 //! what it had, since what it shares is never written.
-ghost use Rattle.std.specs.Prelude.{◌≡◌, ◌<◌, ℕ, length, unwrap_or, None, IsTrue, IfOk, OnOk, OnErr};
+ghost use Rattle.std.specs.Prelude.{◌≡◌, ◌≢◌, ◌<◌, ℕ, length, unwrap_or, None, IsTrue, IfOk, OnOk, OnErr};
 ghost use Rattle.std.specs.Option.{option_copied};
 ghost use Rattle.vs_page.specs.Tree.{at_root};
 ghost use Rattle.vs_page.specs.Changes.{says, shown, items_of};
@@ -96,6 +96,15 @@ fn changes_copied<T: Copied>(
     Ok(copies)
 }
 
+fn item_copied<T: Copied>(alloc: Global, item: Option<&T>) -> Result<Option<T>, NoMemory>
+    ensures { IfOk result (λ copy. copy ≡ option_copied item.entry) }
+{
+    match item {
+        Some(item) => Ok(Some(item.copied(alloc)?)),
+        None => Ok(None),
+    }
+}
+
 /// A map from ids to items. Its pages are shared with copies until a change touches them; a page that no copy has is changed in place.
 #[derive(Drop)]
 pub struct PageMap<T> {
@@ -154,5 +163,33 @@ impl<T: Copied> PageMap<T> {
         self.late = changes;
         settle(&mut self.root, &mut self.late);
         Ok(())
+    }
+
+    /// Puts an item at an id, or none, or changes nothing.
+    pub fn put(&mut self, id: u32, item: Option<T>) -> Result<(), NoMemory>
+        ensures there { OnOk result (items_of self.new id ≡ item) }
+        ensures others { OnOk result ((q : ℕ) → q ≢ id → items_of self.new q ≡ items_of self.old q) }
+        ensures err { OnErr result ((q : ℕ) → items_of self.new q ≡ items_of self.old q) }
+    {
+        let mut changes = Vec::with_capacity(self.alloc, 1)?;
+        changes.push_reserved(Change { id, item });
+        self.publish(changes)
+    }
+
+    /// Puts a copy of the item at one id at another, and none at the one, or changes nothing. Where they are the same id, none is there.
+    pub fn take_to(&mut self, from: u32, to: u32) -> Result<(), NoMemory>
+        ensures from { OnOk result (items_of self.new from ≡ None) }
+        ensures to { OnOk result (to ≢ from → items_of self.new to ≡ items_of self.old from) }
+        ensures others { OnOk result ((q : ℕ) → q ≢ from → q ≢ to → items_of self.new q ≡ items_of self.old q) }
+        ensures err { OnErr result ((q : ℕ) → items_of self.new q ≡ items_of self.old q) }
+    {
+        let item = item_copied(self.alloc, self.get(from))?;
+        let mut changes = Vec::with_capacity(self.alloc, 2)?;
+        changes.push_reserved(Change {
+            id: from,
+            item: None,
+        });
+        changes.push_reserved(Change { id: to, item });
+        self.publish(changes)
     }
 }
