@@ -1,5 +1,5 @@
 -- What each step of a search keeps.
-use Rattle.std.proofs.Common.{◌≡◌, ◌≢◌, ℕ, zero, suc, ◌-◌, ◌<◌, ◌≤◌, ◌⊎◌, inl, inr, Bool, true, false, ◌&&◌, cond, List, [], ◌∷◌, ◌++◌, length, take, map, get_or, min, refl, sym, ap, ◌∙◌, subst, arith, ltb, Some, length-append, length-take}
+use Rattle.std.proofs.Common.{◌≡◌, ◌≢◌, ℕ, zero, suc, ◌-◌, ◌<◌, ◌≤◌, inl, inr, Bool, true, false, ◌&&◌, cond, List, [], ◌∷◌, ◌++◌, length, take, map, get_or, min, refl, sym, ap, ◌∙◌, subst, arith, ltb, Some, length-append, length-take}
 use Rattle.std.specs.Prelude.{filter, count_by, slice_get, slice_index, All, Contains, not, slice_set, nat_eq}
 use Rattle.std.specs.List.Sorted.{IsPermutation}
 use Rattle.std.specs.declared.option.Option.{Option}
@@ -65,7 +65,7 @@ none_kept [] key e h = false≢true h
 none_kept (x ∷ xs) key e h = omega (arith, e)
 
 -- what a key beyond is farther than
-beyond_last : (least : Least) (found : List Key) (key : Key) → least.keys ≡ found → is_beyond least key ≡ true
+pub beyond_last : (least : Least) (found : List Key) (key : Key) → least.keys ≡ found → is_beyond least key ≡ true
     → (0 < length found) × (least.most ≤ length found) × (key_lt (get_or found (length found - 1) key) key ≡ true)
 beyond_last least found key keys beyond =
     let parts = and_parts _ _ beyond in
@@ -77,6 +77,29 @@ beyond_last least found key keys beyond =
           let some : 0 < length found = omega (arith, ne) in
           (some, omega (arith, full, ap length keys), sym (ap (λ o. option_map_or (λ l. key_lt l key) o false) (last_of found key some)) ∙ by)
     ]
+
+-- the list is full, and its last is less than the key
+abbrev pub LiesBeyond : Least → List Key → Key → Type 0
+LiesBeyond least found key = (0 < length found) × (least.most ≤ length found) × (key_lt (get_or found (length found - 1) key) key ≡ true)
+
+last_is : (found : List Key) (d e : Key) → 0 < length found → get_or found (length found - 1) d ≡ get_or found (length found - 1) e
+last_is found d e some = get_or_default found (length found - 1) d e (omega (arith, some))
+
+-- what isn't less than a key beyond lies beyond
+pub beyond_too : (least : Least) (key other : Key) → is_beyond least key ≡ true → key_lt other key ≡ false → LiesBeyond least least.keys other
+beyond_too least key other beyond least_first =
+    let kept = beyond_last least least.keys key refl beyond in
+    (kept.0, kept.1, below_trans (get_or least.keys (length least.keys - 1) other) key other (rw (last_is least.keys other key kept.0) kept.2) least_first)
+
+least_order : (last key other : Key) → key_lt last other ≡ true → key_lt last key ≡ false → key_lt other key ≡ false
+least_order last key other p q = grind (arith, nat_tests)
+
+-- what lies beyond is not less than what doesn't
+pub not_before : (least : Least) (key other : Key) → is_beyond least key ≡ false → is_beyond least other ≡ true → key_lt other key ≡ false
+not_before least key other near beyond =
+    let kept = beyond_last least least.keys other refl beyond in
+    let apart = at_most_last least least.keys key refl kept.0 kept.1 near in
+    least_order (get_or least.keys (length least.keys - 1) other) key other kept.2 (rw (last_is least.keys other key kept.0) apart)
 
 pub at_most_dist : (key other : Key) → key_lt other key ≡ false → key.dist ≤ other.dist
 at_most_dist key other h = grind (arith, nat_tests)
@@ -174,6 +197,23 @@ module _ (at : ℕ → Option Node) (layer : ℕ) (query : List ℕ) where
     keys = All-permutation (λ key. key ≡ key_at at query key.id) _ _ pushed (All-cons (λ key. key ≡ key_at at query key.id) (key_at at query id) left refl h.keys);
     marked = marks_push bits tried id fits h.marked;
     all_marked = all_marks_push bits tried id fits h.all_marked;
+  }
+
+  -- what is left may be in any order
+  pub moves : (start effort : ℕ) (tried expanded : List ℕ) (left more : List Key) (bits : List Bool)
+      → IsSearchOf at layer query start effort tried expanded left bits → IsPermutation left more
+      → IsSearchOf at layer query start effort tried expanded more bits
+  moves start effort tried expanded left more bits h moved = record {
+    start_first = h.start_first;
+    once = h.once;
+    stand = h.stand;
+    reached = h.reached;
+    known = h.known;
+    few = h.few;
+    split = IsPermutation-trans _ _ _ h.split (IsPermutation-append_right expanded (ids_of left) (ids_of more) (IsPermutation-map (λ (key : Key). key.id) left more moved));
+    keys = All-permutation (λ key. key ≡ key_at at query key.id) _ _ moved h.keys;
+    marked = h.marked;
+    all_marked = h.all_marked;
   }
 
   -- the next id is expanded
@@ -286,21 +326,16 @@ module _ (at : ℕ → Option Node) (layer : ℕ) (query : List ℕ) (passes : A
   pub closed_at : (start effort width : ℕ) (tried expanded : List ℕ) (found left : List Key) (bits : List Bool) (least : Least)
       → IsSearchOf at layer query start effort tried expanded left bits
       → found ≡ best_of at query passes width tried
-      → least.most ≡ width → least.keys ≡ found
-      → (left ≡ []) ⊎ ((key : Key) × All (λ other. key_lt other key ≡ false) left × (is_beyond least key ≡ true))
+      → least.most ≡ width
+      → All (LiesBeyond least found) left
       → ((v w : ℕ) → Contains expanded v → IsLinked at layer v w → Contains tried w)
       → (v w : ℕ) → Contains tried v → IsClose at query width tried found v → IsLinked at layer v w → Contains tried w
-  closed_at start effort width tried expanded found left bits least h best most keys far whole v w has close link =
+  closed_at start effort width tried expanded found left bits least h best most far whole v w has close link =
       elim (Contains-append_cases expanded (ids_of left) v (Contains-permutation tried (expanded ++ ids_of left) v h.split has)) [
         | inl e ↦ whole v w e link
-        | inr e ↦ absurd (elim far [
-          | inl none ↦ (let gone : Contains (ids_of []) v = subst (λ l. Contains (ids_of l) v) none e in omega (arith, gone.1))
-          | inr beyond ↦
-              let key = beyond.0 in
-              let kept = beyond_last least found key keys beyond.2 in
-              let other : key_lt (key_at at query v) key ≡ false = All-contains (λ other. key_lt other key ≡ false) left (key_at at query v) beyond.1 (key_in at layer query left v h.keys e) in
-              close_not_beyond width tried found v key best (omega (arith, kept.1, most)) kept.0 close (below_trans (get_or found (length found - 1) key) key (key_at at query v) kept.2 other)
-        ])
+        | inr e ↦
+            let kept = All-contains (LiesBeyond least found) left (key_at at query v) far (key_in at layer query left v h.keys e) in
+            absurd (close_not_beyond width tried found v (key_at at query v) best (omega (arith, kept.1, most)) kept.0 close kept.2)
       ]
 
   order_push : (start width : ℕ) (expanded known : List ℕ) (id : ℕ) → AreNext at layer start query width passes expanded → IsNext at layer start query width passes expanded id known
@@ -324,11 +359,10 @@ module _ (at : ℕ → Option Node) (layer : ℕ) (query : List ℕ) (passes : A
   take_nil zero = refl
   take_nil (suc n) = refl
 
-  pub starts_found : (start width : ℕ) → 0 < width
-      → AreFoundOf at layer query passes start width (start ∷ []) [] (cond (passes (attr_at at start)) (take width (with_key [] (key_at at query start))) [])
+  pub starts_found : (start width : ℕ) → 0 < width → AreFoundOf at layer query passes start width [] [] []
   starts_found start width wide = record {
     wide = wide;
-    best = best_push width [] [] start (sym (take_nil width));
+    best = sym (take_nil width);
     order = λ i below. absurd (omega (arith, below));
   }
 

@@ -1,9 +1,9 @@
 -- What a search keeps while it runs, and its single steps.
-use Rattle.std.specs.Prelude.{◌≡◌, ℕ, ◌+◌, ◌<◌, ◌≤◌, ◌⊎◌, Bool, true, false, not, if◌then◌else◌, List, [], ◌∷◌, ◌++◌, length, map, take, slice_get, slice_index_or, Some, All, Contains, count_by, sum_by, IsPermutation}
+use Rattle.std.specs.Prelude.{◌≡◌, ℕ, ◌+◌, ◌<◌, ◌≤◌, ◌⊎◌, Bool, true, false, not, if◌then◌else◌, List, [], ◌∷◌, ◌++◌, length, map, take, drop, slice_get, slice_index_or, slice_set, Some, All, Contains, count_by, sum_by, IsPermutation}
 use Rattle.std.specs.declared.option.Option.{Option}
 use Rattle.vs_graph.specs.declared.node.Node.{Node}
 use Rattle.vs_graph.specs.Good.{IsLinked, StandsAt, links_at}
-use Rattle.vs_slot.specs.Marks.{Marks}
+use Rattle.vs_slot.specs.Marks.{Marks, is_marked}
 use Rattle.vs_rank.specs.declared.Key.{Key}
 use Rattle.vs_rank.specs.Ranked.{with_key, key_lt, is_beyond}
 use Rattle.vs_rank.specs.Tests.{Attribute, Answers}
@@ -27,8 +27,15 @@ pub record IsSearchOf (at : ℕ → Option Node) (layer : ℕ) (query : List ℕ
   pub marked : (id : ℕ) → slice_index_or bits id false ≡ true → Contains tried id
   pub all_marked : (id : ℕ) → Contains tried id → slice_index_or bits id false ≡ true
 
+-- A search whose ids were offered below a place: what is left are those tried from there on, the frontier, and what was left out of it,
+-- which lies beyond the best.
+pub record IsSearchAt (at : ℕ → Option Node) (layer : ℕ) (query : List ℕ) (s : Search) (marks : Marks) (place : ℕ) : Type 0 where
+  pub refused : List Key
+  pub beyond : All (λ key. is_beyond s.best key ≡ true) refused
+  pub search : IsSearchOf at layer query s.from s.effort s.tried s.expanded (map (key_at at query) (drop place s.tried) ++ (s.frontier.keys ++ refused)) marks.marked
+
 abbrev pub IsSearch : (ℕ → Option Node) → ℕ → List ℕ → Search → Marks → Type 0
-IsSearch at layer query s marks = IsSearchOf at layer query s.from s.effort s.tried s.expanded s.frontier.keys marks.marked
+IsSearch at layer query s marks = IsSearchAt at layer query s marks (length s.tried)
 
 -- what was found under a test, and the order of expansion that came of it
 pub record AreFoundOf (at : ℕ → Option Node) (layer : ℕ) (query : List ℕ) (passes : Attribute → Bool) (start width : ℕ) (tried expanded : List ℕ) (found : List Key) : Type 0 where
@@ -38,6 +45,10 @@ pub record AreFoundOf (at : ℕ → Option Node) (layer : ℕ) (query : List ℕ
 
 abbrev pub AreFound : (ℕ → Option Node) → ℕ → List ℕ → (Attribute → Bool) → Search → Type 0
 AreFound at layer query passes s = AreFoundOf at layer query passes s.from s.best.most s.tried s.expanded s.best.keys
+
+-- the same of those that were tried below a place
+abbrev pub AreFoundAt : (ℕ → Option Node) → ℕ → List ℕ → (Attribute → Bool) → Search → ℕ → Type 0
+AreFoundAt at layer query passes s place = AreFoundOf at layer query passes s.from s.best.most (take place s.tried) s.expanded s.best.keys
 
 -- the same under each predicate that the test answers
 abbrev pub AreFoundBy : (Attribute → Bool → Type 0) → (ℕ → Option Node) → ℕ → List ℕ → Search → Type 0
@@ -64,19 +75,30 @@ pub record IsStarted (s : Search) (start width limit : ℕ) : Type 0 where
 abbrev pub IsOffered : (ℕ → Option Node) → List ℕ → (Attribute → Bool) → Search → Search → ℕ → Type 0
 IsOffered at query passes old new id = new.best.keys ≡ (if passes (attr_at at id) then take old.best.most (with_key old.best.keys (key_at at query id)) else old.best.keys)
 
--- one id was tried
-pub record IsTried (at : ℕ → Option Node) (query : List ℕ) (old new : Search) (id : ℕ) : Type 0 where
+-- what an offer leaves as it was
+pub record HasKept (old new : Search) : Type 0 where
   pub same : IsSameSearch old new
-  pub tried : new.tried ≡ old.tried ++ id ∷ []
+  pub tried : new.tried ≡ old.tried
   pub expanded : new.expanded ≡ old.expanded
-  pub frontier : IsPermutation (key_at at query id ∷ old.frontier.keys) new.frontier.keys
+
+-- a key is in the frontier, or is beyond the best
+pub record IsWaiting (old new : Search) (key : Key) : Type 0 where
+  pub kept : HasKept old new
+  pub best : new.best ≡ old.best
+  pub placed : IsPermutation (key ∷ old.frontier.keys) new.frontier.keys ⊎ ((new.frontier.keys ≡ old.frontier.keys) × (is_beyond old.best key ≡ true))
+
+-- the same of an id's key, and what was beyond the best still is
+pub record IsWeighed (at : ℕ → Option Node) (query : List ℕ) (old new : Search) (id : ℕ) : Type 0 where
+  pub kept : HasKept old new
+  pub placed : IsPermutation (key_at at query id ∷ old.frontier.keys) new.frontier.keys ⊎ ((new.frontier.keys ≡ old.frontier.keys) × (is_beyond new.best (key_at at query id) ≡ true))
+  pub beyond : (other : Key) → is_beyond old.best other ≡ true → is_beyond new.best other ≡ true
 
 -- the nearest id of the frontier is to be expanded
 pub record IsAdvanced (old new : Search) (id : ℕ) : Type 0 where
   pub same : IsSameSearch old new
   pub tried : new.tried ≡ old.tried
   pub expanded : new.expanded ≡ old.expanded ++ id ∷ []
-  pub best : new.best.keys ≡ old.best.keys
+  pub best : new.best ≡ old.best
   pub key : Key
   pub key_id : key.id ≡ id
   pub taken : IsPermutation old.frontier.keys (key ∷ new.frontier.keys)
@@ -88,15 +110,28 @@ pub record IsOver (old new : Search) : Type 0 where
   pub same : IsSameSearch old new
   pub tried : new.tried ≡ old.tried
   pub expanded : new.expanded ≡ old.expanded
-  pub best : new.best.keys ≡ old.best.keys
+  pub best : new.best ≡ old.best
   pub far : (old.frontier.keys ≡ []) ⊎ ((key : Key) × All (λ other. key_lt other key ≡ false) old.frontier.keys × (is_beyond old.best key ≡ true))
 
--- an id is among those that were tried
-pub record IsVisited (old new : Search) (id : ℕ) : Type 0 where
+-- an id is not tried, since it was, or as many were tried as may be
+pub record IsPassedOver (old new : Search) (before after : Marks) (id : ℕ) : Type 0 where
+  pub tried : new.tried ≡ old.tried
+  pub marked : after.marked ≡ before.marked
+  pub why : IsSpent old.effort old.tried ⊎ (is_marked before id ≡ true)
+
+-- an id is tried and marked
+pub record IsTried (old new : Search) (before after : Marks) (id : ℕ) : Type 0 where
+  pub tried : new.tried ≡ old.tried ++ id ∷ []
+  pub marked : after.marked ≡ slice_set before.marked id true
+  pub fresh : is_marked before id ≡ false
+  pub room : IsSpent old.effort old.tried → ⊥
+
+pub record IsVisited (old new : Search) (before after : Marks) (id : ℕ) : Type 0 where
   pub same : IsSameSearch old new
   pub expanded : new.expanded ≡ old.expanded
-  pub more : (w : ℕ) → Contains old.tried w → Contains new.tried w
-  pub there : Contains new.tried id
+  pub frontier : new.frontier ≡ old.frontier
+  pub best : new.best ≡ old.best
+  pub cases : IsPassedOver old new before after id ⊎ IsTried old new before after id
 
 -- the neighbours of an id are among those that were tried, or as many were tried as may be
 pub record IsExpanded (at : ℕ → Option Node) (layer : ℕ) (old new : Search) (id : ℕ) : Type 0 where

@@ -7,7 +7,7 @@ use std::alloc::Global;
 use std::sync::ledger::Ledger;
 use vs_graph::{Nodes, Steps};
 use vs_outside::{List, NoMemory};
-use vs_rank::{Best, Frontier, Testing, Wanted};
+use vs_rank::{Best, Frontier, Key, Testing, Wanted};
 use vs_slot::Slot;
 
 /// A search of one layer.
@@ -22,12 +22,12 @@ pub struct Search {
 }
 
 impl Search {
-    ghost use Rattle.std.specs.Prelude.{◌≡◌, ℕ, ◌+◌, ◌<◌, ◌≤◌, ◌↔◌, Bool, [], length, IsSome, IfSome, IfNone, IfOk, OnOk, Contains, IsTrue};
-    ghost use Rattle.vs_slot.specs.Marks.{IsEmptied};
+    ghost use Rattle.std.specs.Prelude.{◌≡◌, ℕ, ◌+◌, ◌^◌, ◌<◌, ◌≤◌, ◌↔◌, Bool, [], length, drop, IsSome, IfSome, IfNone, IfOk, OnOk, All, Contains, IsTrue};
+    ghost use Rattle.vs_slot.specs.Marks.{Marks, IsEmptied};
     ghost use Rattle.vs_graph.specs.Good.{IsLinked, StandsAt, links_at};
     ghost use Rattle.vs_rank.specs.Tests.{Attribute, Answers};
     ghost use Rattle.vs_beam.specs.Beam.{HasWords, IsSpent, IsBeam};
-    ghost use Rattle.vs_beam.specs.Searching.{IsSearch, AreFoundBy, IsStarted, IsTried, IsOffered, IsAdvanced, IsOver, IsSameSearch, IsVisited, IsExpanded, size_left, expansion_cost};
+    ghost use Rattle.vs_beam.specs.Searching.{IsSearch, IsSearchAt, AreFound, AreFoundAt, AreFoundBy, IsStarted, IsWaiting, IsWeighed, IsOffered, HasKept, IsAdvanced, IsOver, IsSameSearch, IsVisited, IsExpanded, size_left, expansion_cost};
 
     /// A search that tried the id where it starts.
     pub fn start<N: Nodes, F: Testing, L: Ledger>(
@@ -63,7 +63,8 @@ impl Search {
             best: Best::new(alloc, width),
             frontier: Frontier::new(alloc),
         };
-        search.try_one(nodes, from, query, wanted, reads)?;
+        search.tried.push(from)?;
+        search.offer_from(nodes, 0, query, wanted, reads)?;
         Ok(search)
     }
 
@@ -74,28 +75,68 @@ impl Search {
         self.effort != 0 && self.tried.len() == self.effort as usize
     }
 
-    /// Tries an id.
-    fn try_one<N: Nodes, F: Testing, L: Ledger>(
+    /// Puts a key into the frontier, unless it is beyond the best.
+    fn wait(&mut self, key: Key)
+        requires room { 0 < self.old.frontier.spare }
+        ensures waits { IsWaiting self.old self.new key }
+        ensures room { self.old.frontier.spare ≤ self.new.frontier.spare + 1 }
+    {
+        if !self.best.is_beyond(key) {
+            self.frontier.offer(key);
+        }
+    }
+
+    /// Takes the distance of an id that was tried, and offers it to the frontier and to the best.
+    fn offer<N: Nodes, F: Testing, L: Ledger>(
         &mut self,
         nodes: &N,
         id: u32,
         query: &[u64],
         wanted: &Wanted<F>,
         reads: &mut Steps<L>,
-    ) -> Result<(), NoMemory>
+    )
         requires few { length query.now ≤ 512 }
         requires live { HasWords (N.at nodes.now) (length query.now) id }
-        ensures tried { OnOk result (IsTried (N.at nodes.now) query.now self.old self.new id) }
-        ensures offered { OnOk result ((passes : Attribute → Bool) → Answers (F.gives wanted.now.test) passes → IsOffered (N.at nodes.now) query.now passes self.old self.new id) }
+        requires frontier_room { 0 < self.old.frontier.spare }
+        requires best_room { 0 < self.old.best.spare }
+        ensures weighed { IsWeighed (N.at nodes.now) query.now self.old self.new id }
+        ensures offered { (passes : Attribute → Bool) → Answers (F.gives wanted.now.test) passes → IsOffered (N.at nodes.now) query.now passes self.old self.new id }
+        ensures frontier_room { self.old.frontier.spare ≤ self.new.frontier.spare + 1 }
+        ensures best_room { self.old.best.spare ≤ self.new.best.spare + 1 }
         ensures told { reads.new ≤ reads.old + 1 }
     {
         let (key, passes) = look(nodes, id, query, wanted, reads);
-        self.tried.push(id)?;
-        self.frontier.reserve(1)?;
-        self.frontier.offer(key);
+        self.wait(key);
         if passes {
-            self.best.reserve(1)?;
             self.best.offer(key);
+        }
+    }
+
+    /// Offers the ids that were tried from a place on.
+    fn offer_from<N: Nodes, F: Testing, L: Ledger>(
+        &mut self,
+        nodes: &N,
+        start: usize,
+        query: &[u64],
+        wanted: &Wanted<F>,
+        reads: &mut Steps<L>,
+    ) -> Result<(), NoMemory>
+        requires few { length query.now ≤ 512 }
+        requires live { All (HasWords (N.at nodes.now) (length query.now)) (drop start self.old.tried) }
+        requires within { start ≤ length self.old.tried }
+        requires short { length self.old.tried < start + 2 ^ 32 }
+        ensures kept { HasKept self.old self.new }
+        ensures search { OnOk result ((layer : ℕ) (marks : Marks) → IsSearchAt (N.at nodes.now) layer query.now self.old marks start → IsSearch (N.at nodes.now) layer query.now self.new marks) }
+        ensures found { OnOk result ((layer : ℕ) (passes : Attribute → Bool) → Answers (F.gives wanted.now.test) passes → AreFoundAt (N.at nodes.now) layer query.now passes self.old start → AreFound (N.at nodes.now) layer query.now passes self.new) }
+        ensures frontier { OnOk result (length self.new.frontier.keys + start ≤ length self.old.frontier.keys + length self.old.tried) }
+        ensures told { reads.new + start ≤ reads.old + length self.old.tried }
+    {
+        let count = (self.tried.len() - start) as u32;
+        self.frontier.reserve(count)?;
+        self.best.reserve(count)?;
+        for place in start..self.tried.len() {
+            let id = self.tried.as_slice()[place];
+            self.offer(nodes, id, query, wanted, reads);
         }
         Ok(())
     }
@@ -117,39 +158,22 @@ impl Search {
         }
     }
 
-    /// Tries an id, unless it was tried.
-    fn visit<N: Nodes, F: Testing, L: Ledger>(
-        &mut self,
-        nodes: &N,
-        layer: u8,
-        id: u32,
-        query: &[u64],
-        wanted: &Wanted<F>,
-        slot: &mut Slot,
-        reads: &mut Steps<L>,
-    ) -> Result<(), NoMemory>
-        requires few { length query.now ≤ 512 }
-        requires live { HasWords (N.at nodes.now) (length query.now) id }
-        requires stands { StandsAt (N.at nodes.now) layer id }
+    /// Tries an id, unless it was tried or as many were tried as may be.
+    fn visit(&mut self, id: u32, slot: &mut Slot) -> Result<(), NoMemory>
         requires fits { id < length slot.old.marked }
-        requires room { IsSpent self.old.effort self.old.tried → ⊥ }
-        requires linked { (v : ℕ) × Contains self.old.expanded v × IsLinked (N.at nodes.now) layer v id }
-        requires search { IsSearch (N.at nodes.now) layer query.now self.old slot.old }
-        requires found { AreFoundBy (F.gives wanted.now.test) (N.at nodes.now) layer query.now self.old }
-        ensures search { OnOk result (IsSearch (N.at nodes.now) layer query.now self.new slot.new) }
-        ensures found { OnOk result (AreFoundBy (F.gives wanted.now.test) (N.at nodes.now) layer query.now self.new) }
-        ensures visited { OnOk result (IsVisited self.old self.new id) }
+        ensures visited { OnOk result (IsVisited self.old self.new slot.old slot.new id) }
         ensures limit { length slot.new.marked ≡ length slot.old.marked }
-        ensures left { OnOk result (size_left self.new slot.new ≡ size_left self.old slot.old) }
-        ensures told { reads.new ≤ reads.old + 1 }
     {
+        if self.is_spent() {
+            return Ok(());
+        }
         if slot.mark(id) {
-            self.try_one(nodes, id, query, wanted, reads)?;
+            self.tried.push(id)?;
         }
         Ok(())
     }
 
-    /// Tries each neighbour of an id, as long as more may be tried.
+    /// Tries each neighbour of an id, as long as more may be tried: first all are marked, then their distances are taken.
     fn expand<N: Nodes, F: Testing, L: Ledger>(
         &mut self,
         nodes: &N,
@@ -164,6 +188,7 @@ impl Search {
         requires live { (w : ℕ) → IsSome (N.at nodes.now w) → HasWords (N.at nodes.now) (length query.now) w }
         requires stand { (v w : ℕ) → IsLinked (N.at nodes.now) layer v w → StandsAt (N.at nodes.now) layer w }
         requires fits { (w : ℕ) → IsSome (N.at nodes.now w) → w < length slot.old.marked }
+        requires short { length (links_at (N.at nodes.now) layer id) < 2 ^ 32 }
         requires one { Contains self.old.expanded id }
         requires search { IsSearch (N.at nodes.now) layer query.now self.old slot.old }
         requires found { AreFoundBy (F.gives wanted.now.test) (N.at nodes.now) layer query.now self.old }
@@ -171,16 +196,14 @@ impl Search {
         ensures found { OnOk result (AreFoundBy (F.gives wanted.now.test) (N.at nodes.now) layer query.now self.new) }
         ensures expanded { OnOk result (IsExpanded (N.at nodes.now) layer self.old self.new id) }
         ensures limit { length slot.new.marked ≡ length slot.old.marked }
-        ensures left { OnOk result (size_left self.new slot.new ≡ size_left self.old slot.old) }
+        ensures left { OnOk result (size_left self.new slot.new ≤ size_left self.old slot.old) }
         ensures told { reads.new ≤ reads.old + 1 + length (links_at (N.at nodes.now) layer id) }
     {
+        let start = self.tried.len();
         for next in links(nodes, layer, id, reads) {
-            if self.is_spent() {
-                return Ok(());
-            }
-            self.visit(nodes, layer, *next, query, wanted, slot, reads)?;
+            self.visit(*next, slot)?;
         }
-        Ok(())
+        self.offer_from(nodes, start, query, wanted, reads)
     }
 
     /// Expands the nearest ids until none is to be expanded, or as many were tried as may be.
@@ -197,6 +220,7 @@ impl Search {
         requires live { (w : ℕ) → IsSome (N.at nodes.now w) → HasWords (N.at nodes.now) (length query.now) w }
         requires stand { (v w : ℕ) → IsLinked (N.at nodes.now) layer v w → StandsAt (N.at nodes.now) layer w }
         requires fits { (w : ℕ) → IsSome (N.at nodes.now w) → w < length slot.old.marked }
+        requires short { (v : ℕ) → length (links_at (N.at nodes.now) layer v) < 2 ^ 32 }
         requires none { self.old.expanded ≡ [] }
         requires search { IsSearch (N.at nodes.now) layer query.now self.old slot.old }
         requires found { AreFoundBy (F.gives wanted.now.test) (N.at nodes.now) layer query.now self.old }

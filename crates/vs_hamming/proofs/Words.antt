@@ -92,6 +92,23 @@ ham_more a b i p q fits_a fits_b =
     (ham_words-append (take i a) (take i b) (get_or a i 0 ∷ []) (get_or b i 0 ∷ []) long
     ∙ ap (λ n. ham (bits_of (take i a)) (bits_of (take i b)) + n) (ham_one (get_or a i 0) (get_or b i 0) fits_a fits_b))
 
+-- four more words
+pub ham_four : (a b : List ℕ) (i : ℕ) → i + 3 < length a → i + 3 < length b
+    → get_or a i 0 < 2 ^ 64 → get_or b i 0 < 2 ^ 64 → get_or a (i + 1) 0 < 2 ^ 64 → get_or b (i + 1) 0 < 2 ^ 64
+    → get_or a (i + 2) 0 < 2 ^ 64 → get_or b (i + 2) 0 < 2 ^ 64 → get_or a (i + 3) 0 < 2 ^ 64 → get_or b (i + 3) 0 < 2 ^ 64
+    → ham (bits_of (take (i + 4) a)) (bits_of (take (i + 4) b))
+    ≡ ham (bits_of (take i a)) (bits_of (take i b)) + count_ones (bit_xor (get_or a i 0) (get_or b i 0)) + count_ones (bit_xor (get_or a (i + 1) 0) (get_or b (i + 1) 0))
+    + count_ones (bit_xor (get_or a (i + 2) 0) (get_or b (i + 2) 0)) + count_ones (bit_xor (get_or a (i + 3) 0) (get_or b (i + 3) 0))
+ham_four a b i p q a0 b0 a1 b1 a2 b2 a3 b3 =
+    let one = ham_more a b i (omega arith) (omega arith) a0 b0 in
+    let at_2 : i + 1 + 1 ≡ i + 2 = omega arith in
+    let at_3 : i + 2 + 1 ≡ i + 3 = omega arith in
+    let at_4 : i + 3 + 1 ≡ i + 4 = omega arith in
+    let two = rw at_2 at (ham_more a b (i + 1) (omega arith) (omega arith) a1 b1) in
+    let three = rw at_3 at (ham_more a b (i + 2) (omega arith) (omega arith) a2 b2) in
+    let four = rw at_4 at (ham_more a b (i + 3) p q a3 b3) in
+    omega (arith, one, two, three, four)
+
 -- the ones of a word
 pub ones_of_xor-le : (x y : ℕ) → x < 2 ^ 64 → y < 2 ^ 64 → count_ones (bit_xor x y) ≤ 64
 ones_of_xor-le x y p q = ones-le 64 (bit_xor x y) (xor_lt 64 x y p q)
@@ -129,3 +146,8 @@ bits_are ws = fill_by_all (word_bit ws) (bits_of ws) (64 * length ws) false (len
 
 pub words_ham_is : (a b : List ℕ) → ham (bits_of a) (bits_of b) ≡ words_ham a b
 words_ham_is a b = rw (bits_are a, bits_are b) refl
+
+-- the words of two vectors, in two parts
+pub words_ham-append : (a b c d : List ℕ) → length a ≡ length b → words_ham (a ++ c) (b ++ d) ≡ words_ham a b + words_ham c d
+words_ham-append a b c d same =
+    sym (words_ham_is (a ++ c) (b ++ d)) ∙ ham_words-append a b c d same ∙ (λ t. words_ham_is a b t + words_ham_is c d t)

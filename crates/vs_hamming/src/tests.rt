@@ -34,3 +34,17 @@ fn counts_the_places_that_differ(rt: HostRuntime) {
         assert_eq!(rt; distance(a, b), want, "{a:?} and {b:?}");
     }
 }
+
+// Word i of the two vectors differs in 1 + i % 64 places.
+#[test]
+fn counts_at_every_length(rt: HostRuntime) {
+    let a = [0x5555555555555555; 512];
+    let mut b = a;
+    let mut want = 0;
+    for len in 0..512 {
+        assert_eq!(rt; distance(&a[..len], &b[..len]), want, "{len} words");
+        b[len] ^= u64::MAX >> (63 - len % 64);
+        want += 1 + len as u32 % 64;
+    }
+    assert_eq!(rt; distance(&a, &b), want, "512 words");
+}

@@ -1,24 +1,15 @@
-use Rattle.std.proofs.Common.{get_or, arith, take_all, ◌∙◌}
-use Rattle.vs_defs.specs.Vector.{ham}
-use Rattle.vs_hamming.proofs.Words.{bits_of, ham_more, ones_of_xor-le, words_ham_is}
+use Rattle.std.proofs.Common.{◌-◌, ◌%◌, length, sym, ◌∙◌, arith}
+use Rattle.std.proofs.lemmas.List.{take-append-drop}
+use Rattle.vs_hamming.proofs.Words.{words_ham-append}
 use Rattle.vs_hamming.proofs.distance.Goals as goal
-
-pub overflow_add-total : goal.overflow_add-total
-overflow_add-total c =
-    let few = ones_of_xor-le (get_or c.args.a.now c.loop-i.i 0) (get_or c.args.b.now c.loop-i.i 0) (c.type_inv.a c.loop-i.i).fits (c.type_inv.b c.loop-i.i).fits in
-    record { fits = omega arith }
-
-pub loop-i-preserved : goal.loop-i-preserved
-loop-i-preserved c =
-    let few = ones_of_xor-le (get_or c.args.a.now c.loop-i.i 0) (get_or c.args.b.now c.loop-i.i 0) (c.type_inv.a c.loop-i.i).fits (c.type_inv.b c.loop-i.i).fits in
-    let more = ham_more c.args.a.now c.args.b.now c.loop-i.i (omega arith) (omega arith) (c.type_inv.a c.loop-i.i).fits (c.type_inv.b c.loop-i.i).fits in
-    record {
-      counted = omega arith;
-      small = omega arith;
-    }
 
 pub returns : goal.returns
 returns c =
-    let whole = take_all c.loop-i.i c.args.a.now (omega arith) in
-    let whole_too = take_all c.loop-i.i c.args.b.now (omega arith) in
-    c.loop-i.invariant.counted ∙ (λ t. ham (bits_of (whole t)) (bits_of (whole_too t))) ∙ words_ham_is c.args.a.now c.args.b.now
+    let a = c.split_at.ensures in
+    let b = c.split_at-2.ensures in
+    let whole = length c.args.a.now - length c.args.a.now % 4 in
+    let joined = words_ham-append c.split_at.result.0.now c.split_at-2.result.0.now c.split_at.result.1.now c.split_at-2.result.1.now (a.front_len ∙ sym b.front_len) in
+    let both = rw (a.front, a.back, b.front, b.back, take-append-drop whole c.args.a.now, take-append-drop whole c.args.b.now) at joined in
+    let fours = rw (a.front, b.front) at c.by_fours.ensures.counted in
+    let rest = rw (a.back, b.back) at c.one_by_one.ensures.counted in
+    omega (arith, both, fours, rest)

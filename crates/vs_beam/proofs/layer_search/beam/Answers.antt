@@ -1,10 +1,14 @@
 use Rattle.std.proofs.Common.{◌≡◌, ◌∙◌}
 use Rattle.vs_beam.specs.Beam.{IsBeam}
 use Rattle.vs_beam.proofs.Sets.{named_beam}
+use Rattle.vs_beam.proofs.Runs.{short_links}
 use Rattle.vs_beam.proofs.layer_search.beam.Goals as goal
 
 pub run-requires-clause-stand : goal.run-requires-clause-stand
 run-requires-clause-stand g c = rw c.nodes-nodes.ensures.nodes (c.nodes-nodes.ensures.good.links.stand c.args.layer)
+
+pub run-requires-clause-short : goal.run-requires-clause-short
+run-requires-clause-short g c = rw c.nodes-nodes.ensures.nodes (λ v. short_links _ _ _ _ c.args.layer v c.nodes-nodes.ensures.good)
 
 pub returns-clause-beam : goal.returns-clause-beam
 returns-clause-beam g c = λ passes answers.

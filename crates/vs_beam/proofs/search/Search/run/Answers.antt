@@ -1,7 +1,7 @@
-use Rattle.std.proofs.Common.{◌≡◌, ◌∙◌, arith}
+use Rattle.std.proofs.Common.{◌∙◌, arith}
 use Rattle.std.proofs.lemmas.Bool.{iff_false}
 use Rattle.vs_beam.specs.Beam.{IsSpent}
-use Rattle.vs_beam.specs.Searching.{IsAdvanced, IsOver, size_left}
+use Rattle.vs_beam.specs.Searching.{IsAdvanced, IsOver}
 use Rattle.vs_beam.proofs.Visits.{same_trans}
 use Rattle.vs_beam.proofs.Runs.{search_advanced, found_advanced, whole_expanded, beam_over, beam_spent, size_advanced, cost_expanded}
 use Rattle.vs_beam.proofs.search.Search.run.Goals as goal
@@ -23,8 +23,7 @@ pub loop-self-smaller : goal.loop-self-smaller
 loop-self-smaller g c =
     let a : IsAdvanced c.loop-self.self c.advance.new.self c.in-Some.id = rw c.in-Some.is at c.in_ok-id.ensures.some in
     let one = size_advanced c.loop-self.self c.advance.new.self c.loop-self.slot c.in-Some.id a in
-    let same : size_left c.expand.new.self c.expand.new.slot ≡ size_left c.advance.new.self c.loop-self.slot = c.in_ok-expand-in-Some.ensures.left in
-    omega (arith, one, same)
+    omega (arith, one, c.in_ok-expand-in-Some.ensures.left)
 
 pub loop-self-preserved : goal.loop-self-preserved
 loop-self-preserved g c =

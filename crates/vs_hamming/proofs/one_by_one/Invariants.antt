@@ -1,7 +1,7 @@
 use Rattle.std.proofs.Common.{◌≡◌, ◌≤◌, ◌*◌, take}
 use Rattle.vs_defs.specs.Vector.{ham}
 use Rattle.vs_hamming.proofs.Words.{bits_of}
-use Rattle.vs_hamming.proofs.distance.Given as goal
+use Rattle.vs_hamming.proofs.one_by_one.Given as goal
 
 -- the words before i are counted
 abbrev pub invariant-loop-i : goal.invariant-loop-i
