@@ -5,6 +5,7 @@ use Rattle.std.specs.Option.{option_map_or}
 use Rattle.std.proofs.lemmas.Bool.Decides.{nat_tests}
 use Rattle.std.proofs.lemmas.Option.{slice_get-get_or}
 use Rattle.std.proofs.lemmas.List.{length-take-le, get_or-take}
+use Rattle.std.proofs.lemmas.Bool.{and_parts, le-leb}
 use Rattle.vs_rank.specs.declared.Key.{Key}
 use Rattle.vs_rank.specs.Ranked.{Least, key_cmp, key_lt, with_key, worst_of, is_beyond}
 use Rattle.vs_rank.proofs.Sorted.{Ascends, above, not_both}
@@ -51,25 +52,17 @@ no_greater x d (y ∷ ys) up k lt = place_case (above key_cmp x y) x y d ys (wit
 under : (l w other : Key) → key_lt w l ≡ false → key_lt w other ≡ true → key_lt l other ≡ true
 under l w other p q = grind (arith, nat_tests)
 
-both : (a b : Bool) → (a && b) ≡ true → (a ≡ true) × (b ≡ true)
-both true true h = (refl, refl)
-both true false h = absurd (not_both false h refl)
-both false b h = absurd (not_both false h refl)
-
 le_of : (m n : ℕ) → nat_le m n ≡ true → m ≤ n
 le_of m n h = grind (arith, nat_tests)
-
-le_is : (m n : ℕ) → m ≤ n → nat_le m n ≡ true
-le_is m n h = grind (arith, nat_tests)
 
 worst_at : (keys : List Key) (d : Key) → 0 < length keys → worst_of keys ≡ Some (get_or keys (length keys - 1) d)
 worst_at keys d h = slice_get-get_or keys (length keys - 1) d (omega arith)
 
 pub beyond_stays : (most : ℕ) (keys : List Key) (key other : Key) → Ascends key_cmp keys → length keys ≤ most → beyond_of most keys other ≡ true → beyond_of most (take most (with_key keys key)) other ≡ true
-beyond_stays most [] key other up few h = absurd (not_both false (both (nat_le most 0) false h).1 refl)
+beyond_stays most [] key other up few h = absurd (not_both false (and_parts (nat_le most 0) false h).1 refl)
 beyond_stays most (x ∷ xs) key other up few h =
     let keys : List Key = x ∷ xs in
-    let test = both (nat_le most (length keys)) (option_map_or (λ last. key_lt last other) (worst_of keys) false) h in
+    let test = and_parts (nat_le most (length keys)) (option_map_or (λ last. key_lt last other) (worst_of keys) false) h in
     let full : most ≡ length keys = omega (arith, le_of most (length keys) test.0) in
     let new : List Key = take most (with_key keys key) in
     let long : length new ≡ most = length-take-le most (with_key keys key) (omega (arith, placed_long key keys)) in
@@ -80,7 +73,7 @@ beyond_stays most (x ∷ xs) key other up few h =
     ap (λ k. get_or new k x) place ∙ get_or-take most (with_key keys key) (length keys - 1) x (omega (arith, full)) in
     let least : key_lt (get_or new (length new - 1) x) other ≡ true =
     ap (λ k. key_lt k other) now ∙ under (get_or (with_key keys key) (length keys - 1) x) (get_or keys (length keys - 1) x) other (no_greater key x keys up (length keys - 1) (omega arith)) was in
-    (λ t. le_is most (length new) (omega (arith, long)) t && option_map_or (λ last. key_lt last other) (worst_at new x (omega (arith, long, full)) t) false)
+    (λ t. le-leb most (length new) (omega (arith, long)) t && option_map_or (λ last. key_lt last other) (worst_at new x (omega (arith, long, full)) t) false)
     ∙ least
 
 -- the same, of what is seen of a `Best` before and after an offer

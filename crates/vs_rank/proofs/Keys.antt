@@ -8,7 +8,7 @@ use Rattle.std.specs.Ordering.{is_gt, is_lt}
 use Rattle.std.proofs.lemmas.Bool.Decides.{nat_tests}
 use Rattle.std.proofs.lemmas.List.Elements.{All-from_recursion}
 use Rattle.vs_rank.specs.declared.Key.{Key}
-use Rattle.vs_rank.specs.Ranked.{key_cmp, key_lt, with_key, sorted_keys, worst_of, Least, is_beyond}
+use Rattle.vs_rank.specs.Ranked.{key_cmp, key_lt, with_key, sorted_keys, worst_of}
 use Rattle.vs_rank.specs.Ranked as ranked
 use Rattle.vs_rank.proofs.Sorted.{IsOrder, Ascends, AtMost}
 use Rattle.vs_rank.proofs.Sorted as sorted

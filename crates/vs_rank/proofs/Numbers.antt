@@ -1,5 +1,5 @@
 -- Keys in one number each, and a heap of such numbers.
-use Rattle.std.proofs.Common.{◌≡◌, ℕ, ◌+◌, ◌/◌, ◌%◌, ◌<◌, ◌≤◌, ◌-◌, Bool, true, false, cond, List, [], ◌∷◌, length, get_or, map, take, refl, sym, ap, ◌∙◌, subst, arith, inl, inr, heap_items, heap_len, Global}
+use Rattle.std.proofs.Common.{◌≡◌, ℕ, ◌+◌, ◌/◌, ◌%◌, ◌<◌, ◌≤◌, ◌-◌, Bool, false, cond, List, [], ◌∷◌, length, get_or, map, take, refl, sym, ap, ◌∙◌, subst, arith, inl, inr, heap_items, heap_len, Global}
 use Rattle.std.specs.Prelude.{Option, Some, None, IsSome, IfSome, ◌↔◌, ◌&&◌, nat_lt, nat_le}
 use Rattle.std.specs.Option.{option_map_or, option_copied, option_map}
 use denote.Ref.{Bor}
@@ -7,9 +7,9 @@ use Rattle.std.specs.List.Sorted.{IsPermutation, IsSortedBy}
 use Rattle.std.specs.Ordering.{nat_cmp, is_gt, is_lt}
 use Rattle.std.specs.BinaryHeap.{IsHeap, IsUpperBound}
 use Rattle.std.specs.declared.collections.binary_heap.BinaryHeap.{BinaryHeap}
-use Rattle.std.proofs.lemmas.Bool.{cases_lt}
+use Rattle.std.proofs.lemmas.Bool.{cases_lt, le-leb}
 use Rattle.std.proofs.lemmas.Bool.Decides.{nat_tests}
-use Rattle.std.proofs.lemmas.List.{get_or-map}
+use Rattle.std.proofs.lemmas.List.{get_or-map, length-map}
 use Rattle.std.proofs.lemmas.List.Sorted.{IsPermutation-map, length_permutation}
 use Rattle.vs_rank.specs.declared.Key.{Key}
 use Rattle.vs_rank.specs.Ranked.{key_cmp, key_lt, with_key, sorted_keys, worst_of, Least, TopIsReplaced, is_beyond, unpacked}
@@ -37,10 +37,6 @@ is_lt_packed m n = lt_is (unpacked m) (unpacked n) ∙ lt_packed m n ∙ grind (
 abbrev pub seen : List ℕ → List Key
 seen xs = map unpacked xs
 
-long_map : {X Y : Type 0} (f : X → Y) (xs : List X) → length (map f xs) ≡ length xs
-long_map f [] = refl
-long_map f (x ∷ xs) = omega (arith, long_map f xs)
-
 upper : (x : ℕ) (xs : List ℕ) → IsUpperBound nat_cmp x xs → IsUpperBound key_cmp (unpacked x) (seen xs)
 upper x [] h = tt
 upper x (y ∷ ys) h = (is_lt_packed x y ∙ h.0, upper x ys h.1)
@@ -49,7 +45,7 @@ sorted-map : (xs : List ℕ) → IsSortedBy (λ x y. is_lt (nat_cmp x y)) xs →
 sorted-map [] up = λ k d low high. absurd (omega arith)
 sorted-map (x ∷ xs) up = λ k d low high.
     let l : List ℕ = x ∷ xs in
-    let within : k + 1 < length l = omega (arith, long_map unpacked xs) in
+    let within : k + 1 < length l = omega (arith, length-map xs unpacked) in
     let here = get_or-map unpacked l k x d (omega arith) in
     let next = get_or-map unpacked l (k + 1) x d within in
     subst (λ y. is_lt (key_cmp y (get_or (map unpacked l) k d)) ≡ false) (sym next)
@@ -64,7 +60,7 @@ abbrev pub kept : BinaryHeap ℕ Global → List Key
 kept h = sorted_keys (seen (heap_items h))
 
 pub kept_long : (h : BinaryHeap ℕ Global) → length (kept h) ≡ heap_len h
-kept_long h = length_permutation (seen (heap_items h)) (kept h) (sorted.sort_permutes key_cmp (seen (heap_items h))) ∙ long_map unpacked (heap_items h) ∙ sym (heap_long h)
+kept_long h = length_permutation (seen (heap_items h)) (kept h) (sorted.sort_permutes key_cmp (seen (heap_items h))) ∙ length-map (heap_items h) unpacked ∙ sym (heap_long h)
 
 pub kept_more : (h k : BinaryHeap ℕ Global) (x : ℕ) (key : Key) → unpacked x ≡ key → IsPermutation (x ∷ heap_items h) (heap_items k) → kept k ≡ with_key (kept h) key
 kept_more h k x key is same =
@@ -74,7 +70,7 @@ kept_more h k x key is same =
 pub top_is : (h : BinaryHeap ℕ Global) (x : ℕ) → 0 < heap_len h → x ≡ get_or (heap_items h) 0 x → IsUpperBound nat_cmp x (heap_items h) → worst_of (kept h) ≡ Some (unpacked x)
 top_is h x pos e up =
     let some : 0 < length (heap_items h) = omega (arith, heap_long h) in
-    sorted.top_is_last key_cmp key_order (unpacked x) (seen (heap_items h)) (omega (arith, long_map unpacked (heap_items h))) (ap unpacked e ∙ sym (get_or-map unpacked (heap_items h) 0 x (unpacked x) some)) (upper x (heap_items h) up)
+    sorted.top_is_last key_cmp key_order (unpacked x) (seen (heap_items h)) (omega (arith, length-map (heap_items h) unpacked)) (ap unpacked e ∙ sym (get_or-map unpacked (heap_items h) 0 x (unpacked x) some)) (upper x (heap_items h) up)
 
 pub none_kept : (h : BinaryHeap ℕ Global) → heap_len h ≤ 0 → None ≡ worst_of (kept h)
 none_kept h none = no_worst (kept h) (omega (arith, kept_long h))
@@ -123,12 +119,9 @@ offered_full h least key r b v is seen_as full e f =
 not_below : (most n : ℕ) → n < most → nat_le most n ≡ false
 not_below most n h = grind (arith, nat_tests)
 
-at_most : (most n : ℕ) → most ≤ n → nat_le most n ≡ true
-at_most most n h = grind (arith, nat_tests)
-
 pub beyond_full : (h : BinaryHeap ℕ Global) (key worst : Key) (most spare : ℕ) → most ≤ heap_len h → worst_of (kept h) ≡ Some worst
     → is_beyond (record { most = most; keys = kept h; spare = spare }) key ≡ key_lt worst key
-beyond_full h key worst most spare full is = λ t. at_most most (length (kept h)) (omega (arith, kept_long h)) t && option_map_or (λ last. key_lt last key) (is t) false
+beyond_full h key worst most spare full is = λ t. le-leb most (length (kept h)) (omega (arith, kept_long h)) t && option_map_or (λ last. key_lt last key) (is t) false
 
 pub beyond_room : (h : BinaryHeap ℕ Global) (key : Key) (n most spare : ℕ) → n ≡ heap_len h → n < most
     → nat_le most n ≡ is_beyond (record { most = most; keys = kept h; spare = spare }) key

@@ -10,13 +10,14 @@ use Rattle.std.specs.List.Sorted.{IsPermutation, IsSortedBy}
 use Rattle.std.specs.Ordering.{is_gt, is_lt, ordering_reverse}
 use Rattle.std.specs.declared.cmp.Ordering.{Ordering}
 use Rattle.std.specs.declared.cmp.Ordering.TheVariants.{Less, Equal, Greater}
-use Rattle.std.specs.Cmp.{IsTotalOrder}
+use Rattle.std.specs.Cmp.{IsTotalOrder, first_so, second_so}
 use Rattle.std.proofs.lemmas.Cmp.{upto}
-use Rattle.std.proofs.lemmas.Bool.{cases_Bool}
+use Rattle.std.proofs.lemmas.Bool.{cases_Bool, not-true}
 use Rattle.std.proofs.lemmas.List.{take-take, take_more}
 use Rattle.std.proofs.lemmas.List.Sums.{sum_by-cons}
 use Rattle.std.proofs.lemmas.List.Elements.{All-from_recursion, recursion_from_All}
 use Rattle.std.proofs.lemmas.List.Sorted.{IsPermutation-refl, IsPermutation-sym, IsPermutation-cons, IsPermutation-swap, IsPermutation-to_front, IsPermutation-trans, sum_by-IsPermutation, length_permutation, All-permutation}
+use Rattle.std.proofs.Math.Bool.{and-false}
 use Rattle.vs_defs.specs.Bytes.{place_by, sort_by}
 
 -- the order is total, and elements that tie are equal
@@ -28,22 +29,6 @@ pub record IsOrder {X : Type 0} (cmp : X → X → Ordering) : Type 0 where
 
 pub not_both : (b : Bool) → b ≡ true → b ≡ false → ⊥
 not_both b p q = cc
-
-not_true : (b : Bool) → not b ≡ true → b ≡ false
-not_true true h = absurd (not_both false h refl)
-not_true false h = refl
-
-and_left : (a b : Bool) → (a && b) ≡ true → a ≡ true
-and_left true b h = refl
-and_left false b h = h
-
-and_right : (a b : Bool) → (a && b) ≡ true → b ≡ true
-and_right true b h = h
-and_right false b h = absurd (not_both false h refl)
-
-and_false : (a : Bool) → (a && false) ≡ false
-and_false true = refl
-and_false false = refl
 
 one_way_case : (r s : Ordering) → r ≡ ordering_reverse s → is_gt r ≡ true → is_gt s ≡ false
 one_way_case r Less e p = refl
@@ -211,10 +196,10 @@ module _ {X : Type 0} (cmp : X → X → Ordering) (o : IsOrder cmp) where
   ties_with_itself x = rw (not_above_itself x) refl
 
   tie_is : (x y : X) → tie cmp x y ≡ true → x ≡ y
-  tie_is x y h = o.one x y (not_true (above cmp x y) (and_left (not (above cmp x y)) (not (above cmp y x)) h)) (not_true (above cmp y x) (and_right (not (above cmp x y)) (not (above cmp y x)) h))
+  tie_is x y h = o.one x y (not-true (above cmp x y) (first_so (not (above cmp x y)) (not (above cmp y x)) h)) (not-true (above cmp y x) (second_so (not (above cmp x y)) (not (above cmp y x)) h))
 
   not_tie : (x y : X) → above cmp y x ≡ true → tie cmp x y ≡ false
-  not_tie x y h = rw h (and_false (not (above cmp x y)))
+  not_tie x y h = rw h (and-false (not (above cmp x y)))
 
   -- less than each: none ties
   none_ties : (x y : X) (ys : List X) → above cmp y x ≡ true → AtMost cmp y ys → ties_in cmp x ys ≡ 0
