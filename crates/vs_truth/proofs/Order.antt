@@ -1,22 +1,24 @@
 -- The order of what the scan finds is total, and the elements of a heap of candidates are seen by it.
-use Rattle.std.proofs.Common.{◌≡◌, ◌+◌, ◌<◌, ◌-◌, Bool, true, false, cond, List, [], ◌∷◌, length, get_or, map, take, refl, sym, ap, ◌∙◌, subst, arith, heap_items, heap_len, Global}
-use Rattle.std.specs.Prelude.{Option, Some, None, IsSome, IfSome, slice_get}
+use Rattle.std.proofs.Common.{◌≡◌, ℕ, ◌+◌, ◌<◌, ◌≤◌, ◌-◌, Bool, true, false, cond, List, [], ◌∷◌, length, get_or, map, take, refl, sym, ap, ◌∙◌, subst, arith, heap_items, heap_len, Global}
+use Rattle.std.specs.Prelude.{Option, Some, None, IsSome, IfSome, slice_get, nat_lt, nat_le, ◌&&◌}
 use Rattle.std.specs.List.Sorted.{IsPermutation, IsSortedBy}
-use Rattle.std.specs.Ordering.{ordering_then, is_lt, is_gt}
+use Rattle.std.specs.Ordering.{nat_cmp, ordering_then, is_lt, is_gt}
 use Rattle.std.specs.Option.{option_map_or}
 use Rattle.std.specs.BinaryHeap.{IsHeap, IsUpperBound, PopsGreatest}
-use Rattle.std.specs.Cmp.{IsTotalOrder, then_total, on_total, nat_cmp_total}
+use Rattle.std.specs.Cmp.{IsTotalOrder, nat_cmp_is, then_total, on_total, nat_cmp_total}
 use Rattle.std.specs.declared.cmp.Ordering.{Ordering}
 use Rattle.std.specs.declared.cmp.Ordering.TheVariants.{Less, Equal, Greater}
 use Rattle.std.specs.declared.collections.binary_heap.BinaryHeap.{BinaryHeap}
 use Rattle.std.proofs.lemmas.Cmp.{nat_list_cmp_total, ranked}
+use Rattle.std.proofs.lemmas.Bool.Decides.{nat_tests}
+use Rattle.std.proofs.lemmas.Bool.{and_parts, leb-true, ltb-true}
 use Rattle.std.proofs.lemmas.Map.Lookups.{exact_bytes}
 use Rattle.std.proofs.lemmas.List.{get_or-map}
 use Rattle.std.proofs.lemmas.List.Sorted.{IsPermutation-map, length_permutation}
-use Rattle.vs_defs.specs.Bytes.{sort_by, place_by}
+use Rattle.vs_defs.specs.Bytes.{sort_by, place_by, name_cmp}
 use Rattle.vs_rank.proofs.Sorted.{IsOrder, Ascends, order_of, not_both}
 use Rattle.vs_rank.proofs.Sorted as sorted
-use Rattle.vs_truth.specs.Nears.{Near, near_cmp, near_of, candidate_cmp, First}
+use Rattle.vs_truth.specs.Nears.{Near, near_cmp, near_of, candidate_cmp, First, is_beyond}
 use Rattle.vs_truth.specs.declared.candidate.Candidate.{Candidate}
 
 first_equal : (a b : Ordering) → ordering_then a b ≡ Equal → a ≡ Equal
@@ -108,3 +110,38 @@ offered_full h first x r b v is seen_as full e f =
     let up : Ascends near_cmp first.nears = subst (Ascends near_cmp) (sym seen_as ∙ ap (λ (l : First). l.nears) is) (sorted.ascends_sorted near_cmp near_order (seen (heap_items h))) in
     sorted.offer_full near_cmp near_order first.nears x first.most full up
     ∙ ap (λ c. cond c (place_by near_cmp x (take (length first.nears - 1) first.nears)) first.nears) (sym e ∙ f)
+
+-- ---- what is beyond those that are kept
+
+comes_after : (last : Near) (x : Near) → last.dist < x.dist → is_gt (near_cmp last x) ≡ false
+comes_after last x h =
+    let less : Less ≡ nat_cmp last.dist x.dist = nat_cmp_is last.dist x.dist Less h in
+    ap (λ o. is_gt (ordering_then o (ordering_then (name_cmp last.name x.name) (nat_cmp last.place x.place)))) (sym less)
+
+last_before : (o : Option Near) (x : Near) → option_map_or (λ last. nat_lt last.dist x.dist) o false ≡ true → option_map_or (λ last. is_gt (near_cmp last x)) o false ≡ false
+last_before None x h = refl
+last_before (Some last) x h = comes_after last x (ltb-true last.dist x.dist h)
+
+pub beyond_kept : (h : BinaryHeap Candidate Global) (first : First) (x : Near) → (v : First) → v ≡ first → v.nears ≡ kept h → length first.nears ≤ first.most → is_beyond first x.dist ≡ true
+    → take first.most (place_by near_cmp x first.nears) ≡ first.nears
+beyond_kept h first x v is seen_as few beyond =
+    let parts = and_parts (nat_le first.most (length first.nears)) (option_map_or (λ (last : Near). nat_lt last.dist x.dist) (slice_get first.nears (length first.nears - 1)) false) beyond in
+    let full : length first.nears ≡ first.most = omega (arith, few, leb-true _ _ parts.0) in
+    offered_full h first x (option_map_or (λ (last : Near). is_gt (near_cmp last x)) (slice_get first.nears (length first.nears - 1)) false) false v is seen_as full refl (last_before (slice_get first.nears (length first.nears - 1)) x parts.1)
+
+le_is : (m n : ℕ) → m ≤ n → nat_le m n ≡ true
+le_is m n h = grind (arith, nat_tests)
+
+pub gt_is : (m n : ℕ) → n < m → nat_le m n ≡ false
+gt_is m n h = grind (arith, nat_tests)
+
+pub beyond_full : (h : BinaryHeap Candidate Global) (dist : ℕ) (last : Near) (most : ℕ) → most ≤ heap_len h → slice_get (kept h) (length (kept h) - 1) ≡ Some last
+    → is_beyond (record { most = most; nears = kept h }) dist ≡ nat_lt last.dist dist
+beyond_full h dist last most full worst =
+    let all : nat_le most (length (kept h)) ≡ true = le_is most (length (kept h)) (omega (arith, full, kept_long h)) in
+    λ t. all t && option_map_or (λ (x : Near). nat_lt x.dist dist) (worst t) false
+
+pub beyond_room : (h : BinaryHeap Candidate Global) (dist most : ℕ) → heap_len h < most → is_beyond (record { most = most; nears = kept h }) dist ≡ false
+beyond_room h dist most room =
+    let few : nat_le most (length (kept h)) ≡ false = gt_is most (length (kept h)) (omega (arith, room, kept_long h)) in
+    ap (λ b. b && option_map_or (λ (x : Near). nat_lt x.dist dist) (slice_get (kept h) (length (kept h) - 1)) false) few

@@ -1,6 +1,6 @@
 -- A scan of members, one at a time.
 use Rattle.std.proofs.Common.{◌≡◌, ℕ, ◌+◌, ◌/◌, ◌<◌, Bool, true, false, cond, List, [], ◌∷◌, ◌++◌, length, get_or, take, refl, sym, ap, ◌∙◌, subst, arith, map, append-nil}
-use Rattle.std.specs.Prelude.{slice_get, IsSomeAnd, None}
+use Rattle.std.specs.Prelude.{slice_get, IsSomeAnd}
 use Rattle.std.proofs.lemmas.Option.{slice_get-get_or}
 use Rattle.std.proofs.lemmas.List.{take_more, length-take-le}
 use Rattle.vs_defs.specs.Vector.{Vector, ham}
@@ -48,14 +48,14 @@ abbrev pub found : (Attribute → Bool) → Vector → ℕ → List Member → L
 found p q most xs = take most (sort_by near_cmp (map (near_at q) (placed_from p 0 xs)))
 
 -- a step of the scan, at a member that does not pass
-pub step_fails : (p : Attribute → Bool) (q : Vector) (most : ℕ) (xs : List Member) (i : ℕ) (d : Member) (nears : List Near) → i < length xs → p (get_or xs i d).attr ≡ false
+step_fails : (p : Attribute → Bool) (q : Vector) (most : ℕ) (xs : List Member) (i : ℕ) (d : Member) (nears : List Near) → i < length xs → p (get_or xs i d).attr ≡ false
     → nears ≡ found p q most (take i xs) → nears ≡ found p q most (take (i + 1) xs)
 step_fails p q most xs i d nears h fails before =
     before ∙ ap (λ l. take most (sort_by near_cmp (map (near_at q) l)))
     (sym (placed_more p xs i d h ∙ ap (λ b. placed_from p 0 (take i xs) ++ cond b ((i, get_or xs i d) ∷ []) []) fails ∙ append-nil (placed_from p 0 (take i xs))))
 
 -- and at one that passes
-pub step_passes : (p : Attribute → Bool) (q : Vector) (most : ℕ) (xs : List Member) (i : ℕ) (d : Member) (near : Near) (nears more : List Near) → i < length xs → p (get_or xs i d).attr ≡ true
+step_passes : (p : Attribute → Bool) (q : Vector) (most : ℕ) (xs : List Member) (i : ℕ) (d : Member) (near : Near) (nears more : List Near) → i < length xs → p (get_or xs i d).attr ≡ true
     → near ≡ near_at q (i, get_or xs i d) → nears ≡ found p q most (take i xs) → more ≡ take most (place_by near_cmp near nears) → more ≡ found p q most (take (i + 1) xs)
 step_passes p q most xs i d near nears more h passes is before offered =
     let earlier = placed_from p 0 (take i xs) in
@@ -66,6 +66,21 @@ step_passes p q most xs i d near nears more h passes is before offered =
     offered ∙ (λ t. take most (place_by near_cmp (is t) (before t)))
     ∙ take_place near_cmp most (near_at q one) (sort_by near_cmp (map (near_at q) earlier))
     ∙ sym (ap (take most) sorted)
+
+-- a step of the scan, at a member that is offered where it passes
+pub step : (p : Attribute → Bool) (q : Vector) (most : ℕ) (xs : List Member) (i : ℕ) (d : Member) (dist : ℕ) (nears more : List Near) → i < length xs → dist ≡ ham q (get_or xs i d).bits
+    → nears ≡ found p q most (take i xs)
+    → more ≡ cond (p (get_or xs i d).attr) (take most (place_by near_cmp (record { dist = dist; name = (get_or xs i d).name; place = i }) nears)) nears
+    → more ≡ found p q most (take (i + 1) xs)
+step p q most xs i d dist nears more h far before offered = by (p (get_or xs i d).attr) refl
+  where
+    near : Near
+    near = record { dist = dist; name = (get_or xs i d).name; place = i }
+
+    by : (b : Bool) → p (get_or xs i d).attr ≡ b → more ≡ found p q most (take (i + 1) xs)
+    by true e = step_passes p q most xs i d near nears more h e (λ t. record { dist = far t; name = (get_or xs i d).name; place = i }) before
+        (offered ∙ ap (λ b. cond b (take most (place_by near_cmp near nears)) nears) e)
+    by false e = step_fails p q most xs i d more h e (offered ∙ ap (λ b. cond b (take most (place_by near_cmp near nears)) nears) e ∙ before)
 
 pub same_words : (n m : ℕ) (a b : List ℕ) → m ≡ n → FitsDimension n a → FitsDimension m b → length a ≡ length b
 same_words n m a b e p q = p.count ∙ ap (λ k. (k + 63) / 64) (sym e) ∙ sym q.count

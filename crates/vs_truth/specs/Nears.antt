@@ -1,5 +1,6 @@
 -- What the scan has found, by distance, name and place.
-use Rattle.std.specs.Prelude.{ℕ, ◌+◌, Bool, cond, List, [], ◌∷◌, map}
+use Rattle.std.specs.Prelude.{ℕ, ◌+◌, ◌-◌, ◌&&◌, nat_le, nat_lt, Bool, false, cond, List, [], ◌∷◌, length, slice_get, map}
+use Rattle.std.specs.Option.{option_map_or}
 use Rattle.std.specs.Ordering.{nat_cmp, ordering_then}
 use Rattle.std.specs.declared.cmp.Ordering.{Ordering}
 use Rattle.vs_defs.specs.Vector.{Vector, ham}
@@ -22,6 +23,10 @@ near_cmp x y = ordering_then (nat_cmp x.dist y.dist) (ordering_then (name_cmp x.
 pub record First : Type 0 where
   pub most : ℕ
   pub nears : List Near
+
+-- every place is taken by one at a lesser distance
+abbrev pub is_beyond : First → ℕ → Bool
+is_beyond first dist = nat_le first.most (length first.nears) && option_map_or (λ last. nat_lt last.dist dist) (slice_get first.nears (length first.nears - 1)) false
 
 abbrev pub near_of : Candidate → Near
 near_of found = record { dist = found.dist; name = found.name.now; place = found.place }

@@ -1,9 +1,9 @@
 //! The nearest candidates so far, at most as many as are asked for.
-ghost use Rattle.std.specs.Prelude.{◌≡◌, ◌≤◌, ◌<◌, ◌+◌, ◌-◌, [], take, length, map, slice_get, false, IfOk};
+ghost use Rattle.std.specs.Prelude.{◌≡◌, ◌≤◌, ◌<◌, ◌+◌, ◌-◌, [], take, length, map, slice_get, false, IfOk, IsTrue};
 ghost use Rattle.std.specs.Option.{option_map_or};
 ghost use Rattle.std.specs.Ordering.{is_gt};
 ghost use Rattle.vs_defs.specs.Bytes.{place_by};
-ghost use Rattle.vs_truth.specs.Nears.{near_of, near_cmp};
+ghost use Rattle.vs_truth.specs.Nears.{Near, near_of, near_cmp, is_beyond};
 
 use crate::candidate::Candidate;
 use std::alloc::{AllocError, Global};
@@ -78,6 +78,17 @@ impl<'a> NearestHeap<'a> {
     {
         match self.heap.peek() {
             Some(last) => last.cmp(candidate).is_gt(),
+            None => false,
+        }
+    }
+
+    /// Whether every place is taken by a candidate at a lesser distance. What comes at this one is then not kept.
+    pub fn is_beyond(&self, dist: u32) -> bool
+        ensures value { result ≡ is_beyond self.now dist }
+        ensures kept { IsTrue result → (near : Near) → near.dist ≡ dist → take self.now.most (place_by near_cmp near self.now.nears) ≡ self.now.nears }
+    {
+        match self.heap.peek() {
+            Some(last) => self.heap.len() >= self.most as usize && last.dist < dist,
             None => false,
         }
     }

@@ -1,6 +1,6 @@
 //! Exact search: one scan over all members, in any order of their distances.
-ghost use Rattle.std.specs.Prelude.{◌≡◌, ◌+◌, ◌≤◌, Bool, Option, length, map, take, All, IfOk};
-ghost use Rattle.vs_defs.specs.Bytes.{Bytes, sort_by};
+ghost use Rattle.std.specs.Prelude.{◌≡◌, ◌+◌, ◌<◌, ◌≤◌, Bool, if◌then◌else◌, Option, length, map, take, slice_get, All, IfOk, IsSomeAnd};
+ghost use Rattle.vs_defs.specs.Bytes.{Bytes, sort_by, place_by};
 ghost use Rattle.vs_defs.specs.FilterText.{passes_filter};
 ghost use Rattle.vs_defs.specs.Truth as truth;
 ghost use Rattle.vs_rank.specs.Tests.{Attribute, Answers};
@@ -18,6 +18,30 @@ use vs_hamming::distance;
 use vs_outside::{List, NoMemory};
 use vs_rank::{Testing, Wanted};
 
+/// Offers a member where it passes. Its attribute and its name are looked at only where its distance is not beyond those that are kept.
+fn offer_member<'a, M: Members, F: Testing>(
+    few: &mut NearestHeap<'a>,
+    members: &'a M,
+    place: u32,
+    dist: u32,
+    wanted: &Wanted<F>,
+)
+    requires within { place < length (M.members members.now) }
+    ensures most { few.new.most ≡ few.old.most }
+    ensures offered { (passes : Attribute → Bool) → Answers (F.gives wanted.now.test) passes → IsSomeAnd (slice_get (M.members members.entry.now) place) (λ member. few.new.nears ≡ (if passes member.attr then take few.old.most (place_by near_cmp (record { dist = dist; name = member.name; place = place }) few.old.nears) else few.old.nears)) }
+{
+    if few.is_beyond(dist) {
+        return;
+    }
+    if wanted.passes(members.attr(place)) {
+        few.offer(Candidate {
+            dist,
+            name: members.name(place),
+            place,
+        });
+    }
+}
+
 /// The first `most` of the members that pass.
 fn first_passing<'a, M: Members, F: Testing, L: Ledger>(
     alloc: Global,
@@ -34,13 +58,8 @@ fn first_passing<'a, M: Members, F: Testing, L: Ledger>(
     let words = query.words();
     let mut few = NearestHeap::new(alloc, most)?;
     for place in 0..members.count() {
-        if wanted.passes(members.attr(place)) {
-            few.offer(Candidate {
-                dist: distance(words, members.bits(place, reads)),
-                name: members.name(place),
-                place,
-            });
-        }
+        let dist = distance(words, members.bits(place, reads));
+        offer_member(&mut few, members, place, dist, wanted);
     }
     Ok(few)
 }
