@@ -2,18 +2,19 @@
 --     place_there            the place of an id that is taken
 --     with_last, without     the places after a member comes or goes
 --     swap_default, removed_entries      what the removal at a place leaves
-use Rattle.std.proofs.Common.{◌≡◌, ◌≢◌, ℕ, zero, suc, ◌<◌, ◌+◌, ◌-◌, Bool, true, false, not, cond, ◌||◌, List, [], ◌∷◌, ◌++◌, length, take, map, refl, sym, ap, ◌∙◌, subst, arith, inl, inr, get_or, set, length-take-le}
+use Rattle.std.proofs.Common.{◌≡◌, ◌≢◌, ℕ, zero, suc, ◌<◌, ◌+◌, ◌-◌, Bool, true, false, not, cond, ◌||◌, List, [], ◌∷◌, ◌++◌, length, take, map, refl, sym, ap, ◌∙◌, subst, arith, inl, inr, get_or, set, length-take-le, ltb, ◌≤◌}
 use Rattle.std.specs.Prelude.{Some, None, IsSomeAnd, nat_eq, nat_lt, position, slice_get, swap_remove}
+use Rattle.std.specs.declared.option.Option.{Option}
 use Rattle.std.specs.Map.{keys_of}
 use Rattle.std.specs.List.{list_any, position_or_len}
-use Rattle.std.proofs.lemmas.Bool.{both_ways, eqb-true, eq-eqb, cases_eq}
+use Rattle.std.proofs.lemmas.Bool.{both_ways, eqb-true, eq-eqb, cases_eq, lt-ltb, ltb-true, false_from_ne_true}
 use Rattle.std.proofs.lemmas.List.{length-map, get_or_default, get_or-map, get_or_append_left, get_or_push, get_or-take, get_or-set_same, get_or-set_other, length-set, length_push, take-map, map-set}
 use Rattle.std.proofs.lemmas.List.Folds.{list_any_at}
-use Rattle.std.proofs.lemmas.Option.{same_Some, slice_get_within}
+use Rattle.std.proofs.lemmas.List.Sums.{position_or_len_is}
+use Rattle.std.proofs.lemmas.Option.{same_Some}
 use Rattle.vs_defs.specs.Bytes.{Bytes, same_name}
-use Rattle.vs_order.specs.declared.order.Listed.{Listed}
 use Rattle.vs_order.specs.Entries.{Entries, ids_of}
-use Rattle.vs_order.specs.Listed.{ArePlaces, entries_of}
+use Rattle.vs_order.specs.Listed.{ArePlaces}
 
 pub first_at : (id d : ℕ) (ids : List ℕ) → list_any (nat_eq id) ids ≡ true → (position_or_len (nat_eq id) ids < length ids) × (get_or ids (position_or_len (nat_eq id) ids) d ≡ id)
 first_at id d [] h = absurd (both_ways false refl h)
@@ -27,34 +28,34 @@ first_at id d (x ∷ xs) h = by (nat_eq id x) refl (first_at id d xs) h where
       let next : suc (position_or_len (nat_eq id) xs) ≡ 1 + position_or_len (nat_eq id) xs = omega arith in
       (omega (arith, l.0), subst (λ k. get_or (x ∷ xs) k d ≡ id) next l.1)
 
-pub place_there : (ids places : List ℕ) (id : ℕ) → ArePlaces ids places → list_any (nat_eq id) ids ≡ true
-    → (position_or_len (nat_eq id) ids < length ids) × (get_or ids (position_or_len (nat_eq id) ids) id ≡ id) × (slice_get places id ≡ Some (position_or_len (nat_eq id) ids))
+pub place_there : (ids : List ℕ) (places : ℕ → Option ℕ) (id : ℕ) → ArePlaces ids places → list_any (nat_eq id) ids ≡ true
+    → (position_or_len (nat_eq id) ids < length ids) × (get_or ids (position_or_len (nat_eq id) ids) id ≡ id) × (places id ≡ Some (position_or_len (nat_eq id) ids))
 place_there ids places id are h =
     let f = first_at id id ids h in
-    (f.0, f.1, ap (slice_get places) (sym f.1) ∙ are (position_or_len (nat_eq id) ids) id f.0)
+    (f.0, f.1, ap places (sym f.1) ∙ are (position_or_len (nat_eq id) ids) id f.0)
 
 -- two members have two ids
-apart : (ids places : List ℕ) → ArePlaces ids places → (j k d : ℕ) → j < length ids → k < length ids → j ≢ k → get_or ids j d ≢ get_or ids k d
-apart ids places are j k d lj lk ne e = ne (same_Some j k (sym (are j d lj) ∙ ap (slice_get places) e ∙ are k d lk))
+apart : (ids : List ℕ) (places : ℕ → Option ℕ) → ArePlaces ids places → (j k d : ℕ) → j < length ids → k < length ids → j ≢ k → get_or ids j d ≢ get_or ids k d
+apart ids places are j k d lj lk ne e = ne (same_Some j k (sym (are j d lj) ∙ ap places e ∙ are k d lk))
 
 -- the same places but for one id
-abbrev pub IsPlacedAt : List ℕ → List ℕ → ℕ → ℕ → Type 0
-IsPlacedAt places new id place = (slice_get new id ≡ Some place) × ((q : ℕ) → q ≢ id → q < length places → slice_get new q ≡ slice_get places q)
+abbrev pub IsPlacedAt : (ℕ → Option ℕ) → (ℕ → Option ℕ) → ℕ → ℕ → Type 0
+IsPlacedAt places new id place = (new id ≡ Some place) × ((q : ℕ) → q ≢ id → new q ≡ places q)
 
-kept : (ids places new : List ℕ) (id place : ℕ) → ArePlaces ids places → IsPlacedAt places new id place → (k d : ℕ) → k < length ids → get_or ids k d ≢ id → slice_get new (get_or ids k d) ≡ Some k
-kept ids places new id place are p k d lt ne = p.1 (get_or ids k d) ne (slice_get_within places (get_or ids k d) k (are k d lt)) ∙ are k d lt
+kept : (ids : List ℕ) (places new : ℕ → Option ℕ) (id place : ℕ) → ArePlaces ids places → IsPlacedAt places new id place → (k d : ℕ) → k < length ids → get_or ids k d ≢ id → new (get_or ids k d) ≡ Some k
+kept ids places new id place are p k d lt ne = p.1 (get_or ids k d) ne ∙ are k d lt
 
-pub with_last : (ids places new : List ℕ) (id place : ℕ) → place ≡ length ids → ArePlaces ids places → list_any (nat_eq id) ids ≡ false → IsPlacedAt places new id place → ArePlaces (ids ++ id ∷ []) new
+pub with_last : (ids : List ℕ) (places new : ℕ → Option ℕ) (id place : ℕ) → place ≡ length ids → ArePlaces ids places → list_any (nat_eq id) ids ≡ false → IsPlacedAt places new id place → ArePlaces (ids ++ id ∷ []) new
 with_last ids places new id place last are free p k d lt =
     elim (cases_eq k (length ids)) [
-      | inl e ↦ ap (slice_get new) (get_or_push ids id d k (sym e)) ∙ p.0 ∙ ap Some (last ∙ sym e)
+      | inl e ↦ ap new (get_or_push ids id d k (sym e)) ∙ p.0 ∙ ap Some (last ∙ sym e)
       | inr ne ↦
           let low : k < length ids = omega (arith, lt, ne, length_push ids id) in
-          ap (slice_get new) (get_or_append_left ids (id ∷ []) d k low)
+          ap new (get_or_append_left ids (id ∷ []) d k low)
           ∙ kept ids places new id place are p k d low (λ e. both_ways (list_any (nat_eq id) ids) free (list_any_at (nat_eq id) ids k d low (eq-eqb id (get_or ids k d) (sym e))))
     ]
 
-pub without : (ids places new : List ℕ) (place d : ℕ) → place < length ids → ArePlaces ids places → IsPlacedAt places new (get_or ids (length ids - 1) d) place → ArePlaces (swap_remove ids place d) new
+pub without : (ids : List ℕ) (places new : ℕ → Option ℕ) (place d : ℕ) → place < length ids → ArePlaces ids places → IsPlacedAt places new (get_or ids (length ids - 1) d) place → ArePlaces (swap_remove ids place d) new
 without ids places new place d low are p k e lt =
     let n : ℕ = length ids - 1 in
     let y : ℕ = get_or ids n d in
@@ -62,10 +63,10 @@ without ids places new place d low are p k e lt =
     let under : k < n = omega (arith, lt, long) in
     let here : get_or (swap_remove ids place d) k e ≡ get_or (set ids place y) k e = get_or-take n (set ids place y) k e under in
     elim (cases_eq k place) [
-      | inl is ↦ ap (slice_get new) (here ∙ ap (λ q. get_or (set ids place y) q e) is ∙ get_or-set_same ids place y e low) ∙ p.0 ∙ ap Some (sym is)
+      | inl is ↦ ap new (here ∙ ap (λ q. get_or (set ids place y) q e) is ∙ get_or-set_same ids place y e low) ∙ p.0 ∙ ap Some (sym is)
       | inr ne ↦
           let old : get_or (set ids place y) k e ≡ get_or ids k e = get_or-set_other ids place k y e ne in
-          ap (slice_get new) (here ∙ old)
+          ap new (here ∙ old)
           ∙ kept ids places new y place are p k e (omega (arith, under)) (λ same. apart ids places are k n e (omega (arith, under)) (omega (arith, low)) (λ q. omega (arith, q, under)) (same ∙ get_or_default ids n d e (omega (arith, low))))
     ]
 
@@ -88,12 +89,27 @@ entry_there f (x ∷ xs) (suc k) id d lt is = entry_there f xs k id d (omega (ar
 pub entry_at : (es : Entries) (k id : ℕ) → k < length (ids_of es) → get_or (ids_of es) k id ≡ id → IsSomeAnd (slice_get es k) (λ e. id ≡ e.1)
 entry_at es k id lt is = entry_there (λ (e : Bytes × ℕ). e.1) es k id id (omega (arith, lt, length-map es (λ (e : Bytes × ℕ). e.1))) is
 
-pub position_listed : (name : Bytes) (members : List Listed) → position (same_name name) (keys_of (entries_of members)) ≡ position (λ (x : Listed). same_name name x.name) members
-position_listed name members = λ i. cond (nat_lt (same members i) (long members i)) (Some (same members i)) None where
-  same : (xs : List Listed) → position_or_len (same_name name) (keys_of (entries_of xs)) ≡ position_or_len (λ (x : Listed). same_name name x.name) xs
-  same [] = refl
-  same (x ∷ xs) = ap (λ n. cond (not (same_name name x.name)) (1 + n) 0) (same xs)
+not-ltb : (a b : ℕ) → b ≤ a → ltb a b ≡ false
+not-ltb a b h = false_from_ne_true (ltb a b) (λ t. absurd (omega (arith, h, ltb-true a b t)))
 
-  long : (xs : List Listed) → length (keys_of (entries_of xs)) ≡ length xs
-  long [] = refl
-  long (x ∷ xs) = ap suc (long xs)
+-- the first place of a name: none before it has the name
+pub found_first : (name : Bytes) (names : List Bytes) (place : ℕ) → place < length names → ((k : ℕ) → k < place → same_name name (get_or names k []) ≡ false) → same_name name (get_or names place []) ≡ true
+    → position (same_name name) names ≡ Some place
+found_first name names place low before is =
+    let first : position_or_len (same_name name) names ≡ place = position_or_len_is (same_name name) names place [] (omega (arith, low)) before (λ lt. is) in
+    (λ t. cond (nat_lt (first t) (length names)) (Some (first t)) None) ∙ ap (λ b. cond b (Some place) None) (lt-ltb place (length names) low)
+
+pub found_none : (name : Bytes) (names : List Bytes) (place : ℕ) → place ≡ length names → ((k : ℕ) → k < place → same_name name (get_or names k []) ≡ false) → position (same_name name) names ≡ None
+found_none name names place all before =
+    let first : position_or_len (same_name name) names ≡ place = position_or_len_is (same_name name) names place [] (omega (arith, all)) before (λ lt. absurd (omega (arith, lt, all))) in
+    (λ t. cond (nat_lt (first t) (length names)) (Some (first t)) None) ∙ ap (λ b. cond b (Some place) None) (not-ltb place (length names) (omega (arith, all)))
+
+pub name_here : (es : Entries) (k : ℕ) (n : Bytes) → IsSomeAnd (slice_get es k) (λ (e : Bytes × ℕ). n ≡ e.0) → get_or (keys_of es) k [] ≡ n
+name_here [] k n h = absurd h
+name_here (e ∷ es) zero n h = sym h
+name_here (e ∷ es) (suc k) n h = name_here es k n h
+
+pub id_here : (es : Entries) (k id d : ℕ) → IsSomeAnd (slice_get es k) (λ (e : Bytes × ℕ). id ≡ e.1) → get_or (ids_of es) k d ≡ id
+id_here [] k id d h = absurd h
+id_here (e ∷ es) zero id d h = sym h
+id_here (e ∷ es) (suc k) id d h = id_here es k id d h
