@@ -1,7 +1,7 @@
 //! Maps of pages and their snapshots: what a snapshot shares stays as it was, and a refused publish changes nothing.
 ghost use Rattle.std.specs.Prelude.{◌≡◌, ◌<◌};
 
-use crate::PageNodes;
+use crate::{Copied, PageList, PageNodes};
 use std::alloc::{AllocError, Global};
 use std::marker::Brand;
 use std::sync::ledger::{Blank, Ledger};
@@ -144,5 +144,74 @@ fn a_snapshot_of_many_stays_as_it_was(rt: HostRuntime) -> Result<(), NoMemory> {
     assert!(rt; has_words(&nodes, ranges, &[], sevens, true));
     assert!(rt; word_of(&nodes, 5000).is_none());
     assert!(rt; nodes.limit() == 5000);
+    Ok(())
+}
+
+/// An item of which a copy is refused where it is stiff.
+#[derive(Drop)]
+struct Item {
+    number: u32,
+    is_stiff: bool,
+}
+
+impl Copied for Item {
+    fn copied(&self, _alloc: Global) -> Result<Item, NoMemory> {
+        if self.is_stiff {
+            return Err(AllocError);
+        }
+        Ok(Item {
+            number: self.number,
+            is_stiff: false,
+        })
+    }
+}
+
+/// Whether a list has the numbers from 0 on in their order, but for one place.
+fn has_numbers(list: &PageList<Item>, len: u32, place: u32, number: u32) -> bool {
+    let mut all = list.len() == len && list.get(len).is_none();
+    for at in 0..len {
+        let expected = if at == place { number } else { at };
+        all = all
+            && match list.get(at) {
+                Some(item) => item.number == expected,
+                None => false,
+            };
+    }
+    all
+}
+
+#[test]
+fn a_list_is_changed_or_stays(rt: HostRuntime) -> Result<(), NoMemory> {
+    let alloc = rt.alloc();
+    let mut list = PageList::new(alloc)?;
+    for number in 0..40 {
+        if list.len() == number {
+            list.push(Item {
+                number,
+                is_stiff: number == 20,
+            })?;
+        }
+    }
+    let held = list.try_clone()?;
+    // the pages of places 3 and 39 are copied, the stiff item's page is not
+    if list.len() == 40 {
+        list.swap_remove(3)?;
+    }
+    // no copy can be made of the page of place 17, so nothing changes
+    if list.len() == 39 {
+        assert!(rt; list.swap_remove(17).is_err());
+    }
+    assert!(rt; has_numbers(&list, 39, 3, 39));
+    assert!(rt; has_numbers(&held, 40, 40, 0));
+    // nobody else has it now, so it is changed in place
+    drop(held);
+    if list.len() == 39 {
+        list.swap_remove(38)?;
+    }
+    if list.len() == 38 {
+        list.swap_remove(17)?;
+    }
+    assert!(rt; list.len() == 37);
+    assert!(rt; list.get(17).map(|item| item.number) == Some(37));
     Ok(())
 }
