@@ -5,7 +5,7 @@ use Rattle.std.specs.List.{remove}
 use Rattle.std.specs.List.Sorted.{IsPermutation}
 use Rattle.std.specs.declared.option.Option.{Option}
 use Rattle.std.proofs.lemmas.Bool.{and_parts, and_from}
-use Rattle.std.proofs.lemmas.List.{length-map, get_or-map, get_or-take, get_or_default, length-take}
+use Rattle.std.proofs.lemmas.List.{length-map, get_or-take, get_or_default, length-take}
 use Rattle.std.proofs.lemmas.List.Edits.{length-remove}
 use Rattle.std.proofs.lemmas.List.Sums.{sum_by-cons, length-filter}
 use Rattle.std.proofs.lemmas.List.Sorted.{IsPermutation-remove, Contains-permutation}
@@ -17,6 +17,7 @@ use Rattle.vs_rank.specs.Tests.{Attribute}
 use Rattle.vs_defs.specs.Bytes.{Bytes}
 use Rattle.vs_beam.specs.Beam.{IsBeam}
 use Rattle.vs_beam.proofs.Stages.{Stage, IsNamedBy, IsMet, IsNextName}
+use Rattle.vs_beam.proofs.Names.{contains_map}
 
 -- ---- no more than there are places
 
@@ -74,9 +75,6 @@ contains_filter q (x ∷ xs) w has h =
       | inl e ↦ first_case (q x) x w (filter q xs) (ap q e ∙ h) e
       | inr more ↦ keeps_case (q x) x w (filter q xs) (contains_filter q xs w more h)
     ]
-
-contains_map : {X Y : Type 0} (f : X → Y) (xs : List X) (x : X) → Contains xs x → Contains (map f xs) (f x)
-contains_map f xs x has = (has.0, subst (λ n. has.0 < n) (sym (length-map xs f)) has.1, get_or-map f xs has.0 x (f x) has.1 ∙ ap f has.2)
 
 unmap : (f : ℕ → List ℕ) (xs : List ℕ) (y : List ℕ) → Contains (map f xs) y → (x : ℕ) × Contains xs x × (f x ≡ y)
 unmap f [] y has = absurd (omega (arith, has.1))

@@ -18,7 +18,7 @@ use Rattle.vs_defs.specs.Bytes.{Bytes, first_in, last_in}
 use Rattle.vs_beam.proofs.Stages.{Stage, IsNearerThanLast, IsNamedBeam, IsNamedBy, names_of}
 use Rattle.vs_beam.proofs.Steps.{last_of, at_most_dist, ranked_keys, expanded_once}
 
-contains_map : {X Y : Type 0} (f : X → Y) (xs : List X) (x : X) → Contains xs x → Contains (map f xs) (f x)
+pub contains_map : {X Y : Type 0} (f : X → Y) (xs : List X) (x : X) → Contains xs x → Contains (map f xs) (f x)
 contains_map f xs x has = (has.0, subst (λ n. has.0 < n) (sym (length-map xs f)) has.1, get_or-map f xs has.0 x (f x) has.1 ∙ ap f has.2)
 
 first_name : (name : ℕ → Bytes) (ids : List ℕ) (start : ℕ) → slice_get ids 0 ≡ Some start → first_in (map name ids) ≡ Some (name start)

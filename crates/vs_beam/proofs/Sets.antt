@@ -1,10 +1,10 @@
 -- From ids to the set that the graph stands for.
 use Rattle.std.proofs.Common.{◌≡◌, ◌≢◌, ℕ, zero, suc, ◌+◌, ◌<◌, ◌≤◌, inl, inr, Bool, true, false, ◌||◌, cond, leb, ltb, List, [], ◌∷◌, length, take, map, get_or, refl, sym, ap, ◌∙◌, subst, arith}
-use Rattle.std.specs.Prelude.{Some, None, IsSome, IsSomeAnd, IfSome, nat_le, option_map, slice_index, sum_by, unwrap_or, All, AllPairs, Contains}
+use Rattle.std.specs.Prelude.{Some, None, IsSome, IsSomeAnd, nat_le, option_map, slice_index, sum_by, unwrap_or, All, AllPairs, Contains}
 use Rattle.std.specs.List.{list_any}
 use Rattle.std.specs.Option.{option_map_or, option_or}
 use Rattle.std.specs.declared.option.Option.{Option}
-use Rattle.std.proofs.lemmas.Bool.{or_cases, cases_eq, le-leb, leb-true, leb-false, ltb-true, ltb-false}
+use Rattle.std.proofs.lemmas.Bool.{or_cases, cases_eq, le-leb, leb-false, ltb-true, ltb-false, or_right}
 use Rattle.std.proofs.lemmas.List.{length-map, get_or-map, take-map}
 use Rattle.std.proofs.lemmas.List.Elements.{All-map, All-weaker, Contains-get_or}
 use Rattle.std.proofs.lemmas.List.Folds.{list_any_at, Any-from_list_any}
@@ -14,7 +14,7 @@ use Rattle.std.proofs.lemmas.Slice.Eq.{bytes_eq-Decides}
 use Rattle.vs_defs.specs.Bytes.{Bytes, same_name, last_in}
 use Rattle.vs_defs.specs.Vector.{Vector, ham}
 use Rattle.vs_defs.specs.Words.{FitsDimension, bits_of_words, words_ham}
-use Rattle.vs_defs.specs.Store.{Member, Set, member_of, HasNamesOnce, no_member}
+use Rattle.vs_defs.specs.Store.{Member, Set, no_member}
 use Rattle.vs_defs.specs.Store as store
 use Rattle.vs_defs.specs.Links.{links_of, stands_at, reaches, neighbours}
 use Rattle.vs_defs.specs.Beam as defs
@@ -23,12 +23,14 @@ use Rattle.vs_defs.specs.Counts as counts
 use Rattle.vs_bits.proofs.Distances.{words_ham-same}
 use Rattle.vs_graph.specs.declared.node.Node.{Node}
 use Rattle.vs_graph.specs.declared.node.Attr.{Attr}
-use Rattle.vs_graph.specs.Good.{IsLinked, StandsAt, IsGoodNode, IsGood, body_at, links_at}
+use Rattle.vs_graph.specs.Good.{IsLinked, StandsAt, IsGood, body_at, links_at}
 use Rattle.vs_graph.specs.Bodies.{words_at}
 use Rattle.vs_graph.specs.Named.{is_live}
 use Rattle.vs_graph.specs.Standing.{AreIds, member_of_node, member_at, members_of, name_of, set_of}
 use Rattle.vs_graph.proofs.Goods.{contains_from, test_from}
 use Rattle.vs_graph.proofs.Standing.{names_differ, member_there, bits_there, are_named, names_once, degree}
+use Rattle.vs_graph.proofs.NodeLaws.{words_same, fits_node}
+use Rattle.vs_graph.proofs.CommonLaws.{no_layers}
 use Rattle.vs_rank.specs.declared.Key.{Key}
 use Rattle.vs_rank.specs.Tests.{Attribute}
 use Rattle.vs_beam.specs.Beam.{ranked, IsKnown, IsBeam, IsDescent}
@@ -40,15 +42,6 @@ use Rattle.vs_beam.proofs.NamedStops.{is_named_descent}
 use Rattle.vs_beam.proofs.NamedOrder.{each_expanded_stands, expansion_is_named, met_of}
 
 -- ---- one node
-
-words_same : (o : Option Node) → option_map_or (λ node. node.body.bits) o [] ≡ option_map_or (λ body. body.bits) (option_map (λ node. node.body) o) []
-words_same None = refl
-words_same (Some node) = refl
-
-fits_node : (o : Option Node) (layer m dim : ℕ) → IsSomeAnd o (λ node. layer ≤ node.level) → IfSome o (IsGoodNode m dim)
-    → FitsDimension dim (option_map_or (λ body. body.bits) (option_map (λ node. node.body) o) [])
-fits_node None layer m dim h g = absurd h
-fits_node (Some node) layer m dim h g = g.words
 
 level_true : (o : Option Node) (layer dim : ℕ) → IsSomeAnd o (λ node. layer ≤ node.level)
     → nat_le layer (option_map_or (member_of_node dim) o no_member).level ≡ true
@@ -69,21 +62,9 @@ attr_same (Some node) dim = text_same node.attr
 
 -- ---- lists
 
-or_right : (a b : Bool) → b ≡ true → (a || b) ≡ true
-or_right true b h = refl
-or_right false b h = h
-
 last_more : (x : Bytes) (ys : List Bytes) (z : Bytes) → last_in ys ≡ Some z → last_in (x ∷ ys) ≡ Some z
 last_more x [] z h = cc
 last_more x (y ∷ ys) z h = h
-
-no_layers_by : (b : Bool) (top low : ℕ) (ls : List ℕ) → leb low top ≡ b → top < low → cond b ls [] ≡ []
-no_layers_by true top low ls e h = absurd (omega (arith, leb-true low top e, h))
-no_layers_by false top low ls e h = refl
-
-no_layers : (top low : ℕ) → top < low → layers_down top low ≡ []
-no_layers zero low h = no_layers_by (leb low 0) 0 low (0 ∷ []) refl h
-no_layers (suc high) low h = no_layers_by (leb low (suc high)) (suc high) low (suc high ∷ layers_down high low) refl h
 
 last_layer_by : (f : ℕ → Bytes) (b : Bool) (high low : ℕ) → leb low (suc high) ≡ b → low ≤ suc high → (low ≤ high → last_in (map f (layers_down high low)) ≡ Some (f low))
     → last_in (map f (cond b (suc high ∷ layers_down high low) [])) ≡ Some (f low)
@@ -137,7 +118,7 @@ module _ (at : ℕ → Option Node) (entry : Option ℕ) (m dim cut : ℕ) (ids 
             (w.1.0, contains_from (links_at at layer a) w.1.0 (sym same ∙ link), w.1.2);
         far = λ a sa.
             ap (ham bits) (bits_there at m dim ids good.links are a (live layer a sa))
-            ∙ sym (words_ham-same dim query (words_at (body_at at) a) fits (fits_node (at a) layer m dim sa (good.links.nodes a)))
+            ∙ sym (words_ham-same dim query (words_at (body_at at) a) fits (fits_node layer m dim (at a) sa (good.links.nodes a)))
             ∙ ap (words_ham query) (sym (words_same (at a)));
         passing = λ a sa. by (name_of at a) (member_at at dim a) (there a (live layer a sa)) ∙ ap passes (attr_same (at a) dim);
       }

@@ -16,6 +16,7 @@ use Rattle.std.proofs.lemmas.List.Sums.{count_by-le-length}
 use Rattle.std.proofs.lemmas.Option.{slice_get-get_or}
 use Rattle.vs_graph.specs.declared.node.Node.{Node}
 use Rattle.vs_graph.specs.Good.{IsLinked, StandsAt}
+use Rattle.vs_graph.proofs.CommonLaws.{nat_eq_flips}
 use Rattle.vs_rank.specs.declared.Key.{Key}
 use Rattle.vs_rank.specs.Tests.{Attribute}
 use Rattle.vs_rank.specs.Ranked.{Least, key_lt, with_key, sorted_keys, is_beyond}
@@ -103,9 +104,6 @@ not_before least key other near beyond =
 
 pub at_most_dist : (key other : Key) → key_lt other key ≡ false → key.dist ≤ other.dist
 at_most_dist key other h = grind (arith, nat_tests)
-
-flips : (x y : ℕ) → nat_eq x y ≡ nat_eq y x
-flips x y = grind (arith, nat_tests)
 
 module _ (at : ℕ → Option Node) (layer : ℕ) (query : List ℕ) where
   reached_push : (tried : List ℕ) (id v : ℕ) → IsReached at layer tried → Contains tried v → IsLinked at layer v id → IsReached at layer (tried ++ id ∷ [])
@@ -239,7 +237,7 @@ module _ (at : ℕ → Option Node) (layer : ℕ) (query : List ℕ) where
 
   pub expanded_once : (tried expanded rest : List ℕ) → AreDifferent tried → IsPermutation tried (expanded ++ rest) → AreDifferent expanded
   expanded_once tried expanded rest once split =
-      let all = IsDistinct-IsPermutation nat_eq flips tried (expanded ++ rest) split (IsDistinct-from_AllPairs Decides-eqb tried once) in
+      let all = IsDistinct-IsPermutation nat_eq nat_eq_flips tried (expanded ++ rest) split (IsDistinct-from_AllPairs Decides-eqb tried once) in
       let pairs = AllPairs-from_IsDistinct Decides-eqb (expanded ++ rest) all in
       λ i j d before below e.
       pairs i j d before (omega (arith, below, length-append expanded rest))

@@ -6,7 +6,7 @@ use Rattle.std.proofs.Common.{◌≡◌, ◌≢◌, ℕ, true, cond, eqb, List, 
 use Rattle.std.specs.Prelude.{IsSome, is_some, nat_eq}
 use Rattle.std.specs.List.{list_any, IsDistinct}
 use Rattle.std.specs.declared.option.Option.{Option}
-use Rattle.std.proofs.lemmas.Bool.{cases_eq, both_ways, eq-eqb, ne_eqb}
+use Rattle.std.proofs.lemmas.Bool.{cases_eq, both_ways, eq-eqb, ne_eqb, false_from_ne_true}
 use Rattle.std.proofs.lemmas.Map.Keys.{IsDistinct-tail}
 use Rattle.std.proofs.lemmas.Slice.Eq.{bytes_eq-Decides}
 use Rattle.vs_defs.specs.Bytes.{same_name}
@@ -15,20 +15,16 @@ use Rattle.vs_graph.specs.declared.node.Node.{Node}
 use Rattle.vs_graph.specs.Good.{AreLinksGood}
 use Rattle.vs_graph.specs.Named.{is_live}
 use Rattle.vs_graph.specs.Standing.{AreIds, member_at, members_of, name_of}
-use Rattle.vs_graph.proofs.Lists.{head_absent, not_true}
-use Rattle.vs_graph.proofs.Sorts.{In, test_from_in, in_from_test}
+use Rattle.vs_graph.proofs.Lists.{head_absent}
+use Rattle.vs_graph.proofs.Sorts.{In, test_from_in, in_from_test, map_same_in}
 use Rattle.vs_graph.proofs.Standing.{member_name, names_differ}
-
-pub map_same_in : {X Y : Type 0} (f g : X → Y) (xs : List X) → ((x : X) → In x xs → f x ≡ g x) → map f xs ≡ map g xs
-map_same_in f g [] h = refl
-map_same_in f g (x ∷ xs) h = ap (λ y. y ∷ map f xs) (h x (inl refl)) ∙ ap (λ l. g x ∷ l) (map_same_in f g xs (λ y k. h y (inr k)))
 
 module _ (at : ℕ → Option Node) (m dim x : ℕ) (ids : List ℕ) (good : AreLinksGood at m dim) (are : AreIds at ids) (some : IsSome (at x)) where
   pub is_named_as : (q : ℕ) → is_live ids q ≡ true → is_of_name (name_of at x) (member_at at dim q) ≡ eqb q x
   is_named_as q live = elim (cases_eq q x) [
     | inl is ↦ (bytes_eq-Decides (name_of at x) (member_at at dim q).name).1 (ap (name_of at) (sym is) ∙ sym (member_name at m dim q)) ∙ sym (eq-eqb q x is)
     | inr ne ↦
-        not_true (same_name (name_of at x) (member_at at dim q).name)
+        false_from_ne_true (same_name (name_of at x) (member_at at dim q).name)
         (λ h. ne (sym (names_differ at m dim ids good are x q (are.live x ∙ some) live ((bytes_eq-Decides (name_of at x) (member_at at dim q).name).0 h ∙ member_name at m dim q))))
         ∙ sym (ne_eqb q x ne)
   ]

@@ -4,7 +4,6 @@ use Rattle.std.specs.Prelude.{Some, None, IsSomeAnd, IfSome, unwrap_or, option_m
 use Rattle.std.specs.declared.option.Option.{Option}
 use Rattle.std.proofs.lemmas.Bool.{cases_eq}
 use Rattle.std.proofs.lemmas.List.Elements.{Contains-get_or}
-use Rattle.std.proofs.Math.Path.{fun_ext}
 use Rattle.vs_graph.specs.declared.node.Node.{Node}
 use Rattle.vs_graph.specs.declared.edit.Edit.{Edit}
 use Rattle.vs_graph.specs.Edits.{changed, overwritten}
@@ -16,10 +15,7 @@ use Rattle.vs_graph.specs.Relinks.{Relinks, cleared}
 use Rattle.vs_graph.specs.Table.{Table}
 use Rattle.vs_graph.proofs.Goods.{links_elsewhere}
 use Rattle.vs_graph.proofs.Newcomers.{same_links}
-
--- an edit that says nothing
-pub unchanged : (edit : Edit) (base : ℕ → Option Node) → ((id : ℕ) → changed edit id ≡ None) → overwritten edit base ≡ base
-unchanged edit base h = fun_ext (λ id. ap (λ o. unwrap_or o (base id)) (h id))
+use Rattle.vs_graph.proofs.Renaming.{no_change}
 
 -- ---- levels
 
@@ -41,10 +37,6 @@ from_level (Some node) layer h = h
 zero_only : (o : Option ℕ) (layer : ℕ) → o ≡ Some 0 → IsSomeAnd o (λ v. layer ≤ v) → layer ≡ 0
 zero_only None layer e h = absurd h
 zero_only (Some v) layer e h = let same : v ≡ 0 = ap (λ o. unwrap_or o 0) e in omega (arith, same, h)
-
-none_stands : (o : Option Node) (layer : ℕ) → o ≡ None → IsSomeAnd o (λ node. layer ≤ node.level) → ⊥
-none_stands None layer e h = h
-none_stands (Some node) layer e h = absurd cc
 
 -- no level is above the one at the entry
 abbrev IsTop : (ℕ → Option ℕ) → ℕ → Type 0
@@ -170,7 +162,7 @@ good_with at mid new entry m dim id node t good newcomer flat change links relin
 pub mid_good : (edit new : Edit) (base at : ℕ → Option Node) (m k dim : ℕ) (node : Node) → base ≡ at → k ≡ m → ((id : ℕ) → changed edit id ≡ None) → AreLinksGood at m dim → FitsDimension dim node.body.bits
     → ((m dim : ℕ) → FitsDimension dim node.body.bits → AreLinksGood (overwritten edit base) m dim → AreLinksGood (overwritten new base) m dim) → AreLinksGood (overwritten new base) k dim
 mid_good edit new base at m k dim node e f none good fits keeps =
-    keeps k dim fits (subst (λ g. AreLinksGood g k dim) (sym (unchanged edit base none ∙ e)) (subst (λ n. AreLinksGood at n dim) (sym f) good))
+    keeps k dim fits (subst (λ g. AreLinksGood g k dim) (sym (no_change edit base none ∙ e)) (subst (λ n. AreLinksGood at n dim) (sym f) good))
 
 pub changes_base : (edit : Edit) (base mid : ℕ → Option Node) (id : ℕ) (node : Node) → ((id : ℕ) → changed edit id ≡ None) → ChangesAt (overwritten edit base) mid id (Some node) → ChangesAt base mid id (Some node)
-changes_base edit base mid id node none change = subst (λ g. ChangesAt g mid id (Some node)) (unchanged edit base none) change
+changes_base edit base mid id node none change = subst (λ g. ChangesAt g mid id (Some node)) (no_change edit base none) change

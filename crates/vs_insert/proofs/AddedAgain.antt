@@ -13,11 +13,11 @@ use Rattle.vs_graph.proofs.Replacing.{placed, same_ids}
 use Rattle.vs_graph.proofs.Standing.{member_name}
 use Rattle.vs_unlink.specs.Unlinked.{IsWithout}
 use Rattle.vs_unlink.proofs.Leavings.{same_member_by}
+use Rattle.vs_unlink.proofs.Bare.{live_bare}
 use Rattle.vs_insert.specs.declared.draft.Draft.{Draft}
 use Rattle.vs_insert.specs.Added.{IsAdded}
 use Rattle.vs_insert.specs.Chosen.{drafted_member}
-use Rattle.vs_insert.proofs.Adding.{some_of}
-use Rattle.vs_insert.proofs.Bare.{live_bare}
+use Rattle.vs_beam.proofs.Visits.{some_and}
 
 module _ (at mid new : ℕ → Option Node) (entry : Option ℕ) (m dim x : ℕ) (attr : Option Attr) (draft : Draft) (ids : List ℕ) (good : AreLinksGood at m dim) (are : AreIds at ids) (gone : IsWithout at mid x)
     (added : IsAdded mid new entry m dim x attr draft) (named : name_of at x ≡ draft.body.name) where
@@ -41,7 +41,7 @@ module _ (at mid new : ℕ → Option Node) (entry : Option ℕ) (m dim x : ℕ)
   live_same q ne = sym (live_bare (new q)) ∙ ap is_some (added.others q ne ∙ gone.others q ne) ∙ live_bare (at q)
 
   pub ids_again : AreIds new ids
-  ids_again = same_ids at new x ids are gone.was (some_of (new x) _ added.there) live_same
+  ids_again = same_ids at new x ids are gone.was (some_and (new x) _ added.there) live_same
 
   pub members_again : members_of new dim ids ≡ with_replaced (drafted_member dim attr draft) (members_of at dim ids)
   members_again = placed at m dim x ids good are gone.was new same_at put_name ∙ ap (λ y. with_replaced y (members_of at dim ids)) put_at

@@ -12,7 +12,9 @@ use Rattle.vs_graph.specs.declared.node.Node.{Node}
 use Rattle.vs_graph.specs.Good.{links_at, links_of, IsLinked, StandsAt, AreLinksGood, AllLinked, IsEntry, IsGood}
 use Rattle.vs_graph.specs.Newcomer.{ChangesAt, IsNewcomer}
 use Rattle.vs_graph.proofs.Newcomers.{same_links, good_with}
+use Rattle.vs_graph.proofs.NodeLaws.{none_stands}
 use Rattle.vs_beam.specs.Beam.{level_at}
+use Rattle.vs_beam.proofs.Visits.{some_and}
 use Rattle.vs_unlink.specs.Unlinked.{bare, bare_node}
 use Rattle.vs_insert.specs.declared.draft.Chosen.{Chosen}
 use Rattle.vs_insert.specs.Joined.{layers_shared, IsSharedBelow, IsJoinedFrom}
@@ -20,10 +22,6 @@ use Rattle.vs_insert.specs.Added.{entry_after}
 use Rattle.vs_insert.proofs.Bare.{stood}
 
 -- ---- levels
-
-pub none_stands : (o : Option Node) (l : ℕ) → o ≡ None → IsSomeAnd o (λ n. l ≤ n.level) → ⊥
-none_stands None l e h = h
-none_stands (Some n) l e h = absurd (none-some n (sym e))
 
 own_level : (o : Option Node) (P : Node → Type 0) → IsSomeAnd o P → (l : ℕ) → l ≤ option_map_or (λ n. n.level) o 0 → IsSomeAnd o (λ n. l ≤ n.level)
 own_level None P h l less = absurd h
@@ -66,10 +64,6 @@ same_but_links (Some n) node e =
 top_from : (new : ℕ → Option Node) (o : Option Node) (top : ℕ) → IsSomeAnd o (λ n. n.level ≡ top) → ((q : ℕ) → IfSome (new q) (λ other. other.level ≤ top)) → IsSomeAnd o (λ n. (q : ℕ) → IfSome (new q) (λ other. other.level ≤ n.level))
 top_from new None top h all = h
 top_from new (Some n) top h all = λ q. subst (λ v. IfSome (new q) (λ other. other.level ≤ v)) (sym h) (all q)
-
-pub some_of : (o : Option Node) (P : Node → Type 0) → IsSomeAnd o P → IsSome o
-some_of None P h = absurd h
-some_of (Some n) P h = refl
 
 module _ (at mid : ℕ → Option Node) (entry : Option ℕ) (m dim id : ℕ) (node : Node) (good : IsGood at entry m dim) (newcomer : IsNewcomer at id node) (change : ChangesAt at mid id (Some node)) where
   pub mid_good : FitsDimension dim node.body.bits → AreLinksGood mid m dim
@@ -163,7 +157,7 @@ module _ (at mid : ℕ → Option Node) (entry : Option ℕ) (m dim id : ℕ) (n
         top_from new (new id) node.level its_level
         (λ q. level_if q node.level (omega arith) (if_more (at q) (level_at at e) node.level (omega (arith, ltb-true (level_at at e) node.level is)) (if_top (at e) (at q) (spread at (at e) top q))))
     top_by e top false is =
-        let some : IsSome (at e) = some_of (at e) _ top in
+        let some : IsSome (at e) = some_and (at e) _ top in
         let s : StandsAt at 0 e = own_level (at e) _ top 0 (omega arith) in
         top_from new (new e) (level_at at e) (level_bare (new e) (at e) (j.rest e ∙ ap bare (change.others e (not_new 0 e s))) some)
         (λ q. level_if q (level_at at e) (omega (arith, ltb-false (level_at at e) node.level is)) (if_top (at e) (at q) (spread at (at e) top q)))

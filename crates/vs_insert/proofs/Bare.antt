@@ -1,31 +1,16 @@
 -- What is the same of two maps of nodes that differ in links alone.
-use Rattle.std.proofs.Common.{◌≡◌, ℕ, ◌≤◌, List, [], ◌∷◌, length, map, refl, sym, ap, ◌∙◌, subst}
-use Rattle.std.specs.Prelude.{Some, None, is_some, IsSomeAnd, option_map}
+use Rattle.std.proofs.Common.{◌≡◌, ℕ, ◌≤◌, List, [], length, sym, ap, ◌∙◌, subst}
+use Rattle.std.specs.Prelude.{is_some, IsSomeAnd, option_map}
 use Rattle.std.specs.Option.{option_map_or}
 use Rattle.std.specs.declared.option.Option.{Option}
 use Rattle.std.proofs.Math.Path.{fun_ext}
 use Rattle.vs_graph.specs.declared.node.Node.{Node}
 use Rattle.vs_graph.specs.Good.{body_at, layers_at, StandsAt}
 use Rattle.vs_graph.specs.Standing.{AreIds, member_at, members_of, name_of}
+use Rattle.vs_graph.proofs.CommonLaws.{map_same}
 use Rattle.vs_unlink.specs.Unlinked.{bare}
-use Rattle.vs_unlink.proofs.Layers.{body_bare, layers_bare}
 use Rattle.vs_unlink.proofs.Leavings.{same_member_by}
-
-pub live_bare : (o : Option Node) → is_some (bare o) ≡ is_some o
-live_bare None = refl
-live_bare (Some node) = refl
-
-bare_stands : (layer : ℕ) (o : Option Node) → IsSomeAnd o (λ node. layer ≤ node.level) → IsSomeAnd (bare o) (λ node. layer ≤ node.level)
-bare_stands layer None h = h
-bare_stands layer (Some node) h = h
-
-stands_bare : (layer : ℕ) (o : Option Node) → IsSomeAnd (bare o) (λ node. layer ≤ node.level) → IsSomeAnd o (λ node. layer ≤ node.level)
-stands_bare layer None h = h
-stands_bare layer (Some node) h = h
-
-map_same : {X Y : Type 0} (f g : X → Y) (xs : List X) → ((x : X) → f x ≡ g x) → map f xs ≡ map g xs
-map_same f g [] h = refl
-map_same f g (x ∷ xs) h = ap (λ y. y ∷ map f xs) (h x) ∙ ap (λ l. g x ∷ l) (map_same f g xs h)
+use Rattle.vs_unlink.proofs.Bare.{body_bare, layers_bare, live_bare, bare_stands, stands_bare}
 
 module _ (at new : ℕ → Option Node) (rest : (id : ℕ) → bare (new id) ≡ bare (at id)) where
   pub bodies_same : body_at new ≡ body_at at

@@ -1,11 +1,11 @@
 -- The choice at each layer, and the lists of all layers, by names.
-use Rattle.std.proofs.Common.{◌≡◌, ℕ, zero, suc, ◌+◌, ◌-◌, ◌<◌, ◌≤◌, Bool, true, false, cond, leb, List, [], ◌∷◌, ◌++◌, length, map, get_or, add-one, min, refl, sym, ap, ◌∙◌, subst, arith, inl, inr}
-use Rattle.std.specs.Prelude.{Some, None, IsSome, IsSomeAnd, IfSome, nat_eq, option_map, unwrap_or, slice_get, slice_index, reverse, replicate, MatchOption, All}
+use Rattle.std.proofs.Common.{◌≡◌, ℕ, zero, suc, ◌+◌, ◌-◌, ◌<◌, ◌≤◌, List, [], ◌∷◌, ◌++◌, length, map, get_or, add-one, min, refl, sym, ap, ◌∙◌, subst, arith, inl, inr}
+use Rattle.std.specs.Prelude.{Some, None, IsSome, IsSomeAnd, nat_eq, option_map, unwrap_or, slice_get, slice_index, reverse, replicate, MatchOption, All}
 use Rattle.std.specs.List.{IsDistinct}
 use Rattle.std.specs.Option.{option_map_or}
 use Rattle.std.specs.declared.option.Option.{Option}
 use Rattle.std.proofs.Math.Nat.{min-eq_left, min-eq_right, min-le_left}
-use Rattle.std.proofs.lemmas.Bool.{cases_lt, leb-true}
+use Rattle.std.proofs.lemmas.Bool.{cases_lt}
 use Rattle.std.proofs.lemmas.Option.{none-some, same_Some}
 use Rattle.std.proofs.lemmas.List.{length-map, length-append, append-nil, map-append, append_assoc, reverse-append, reverse-reverse, length-reverse, length-replicate, replicate-append-replicate}
 use Rattle.vs_bits.proofs.Distances.{words_ham-same}
@@ -16,14 +16,16 @@ use Rattle.vs_defs.specs.Store.{Member, Set}
 use Rattle.vs_defs.specs.Links.{bits_at}
 use Rattle.vs_defs.specs.Linking as rules
 use Rattle.vs_defs.specs.Beam as beams
-use Rattle.vs_defs.specs.Beam.{layers_down, descent_start}
+use Rattle.vs_defs.specs.Beam.{layers_down}
 use Rattle.vs_defs.specs.Insertion.{ChoosesFrom, IsChosenBelow, IsChosen, pass_all}
 use Rattle.vs_graph.specs.declared.node.Node.{Node}
-use Rattle.vs_graph.specs.Good.{body_at, StandsAt, IsGoodNode, AreLinksGood, IsEntry, IsGood}
+use Rattle.vs_graph.specs.Good.{body_at, StandsAt, AreLinksGood, IsEntry, IsGood}
 use Rattle.vs_graph.specs.Bodies.{Bodies, words_at}
 use Rattle.vs_graph.specs.Standing.{AreIds, members_of, name_of, set_of}
 use Rattle.vs_graph.proofs.Goods.{distinct_none}
 use Rattle.vs_graph.proofs.Standing.{bits_there, member_there}
+use Rattle.vs_graph.proofs.NodeLaws.{words_same, fits_node, some_node}
+use Rattle.vs_graph.proofs.CommonLaws.{no_layers}
 use Rattle.vs_rank.specs.declared.Key.{Key}
 use Rattle.vs_link.specs.Selected.{selected}
 use Rattle.vs_link.proofs.Chosen.{chosen_all, chosen_few, chosen_once}
@@ -31,6 +33,7 @@ use Rattle.vs_beam.specs.Beam.{key_at, ranked, IsBeam, IsDescent}
 use Rattle.vs_beam.specs.Named.{keys_named, stops_named}
 use Rattle.vs_beam.proofs.Descents.{stands_below}
 use Rattle.vs_beam.proofs.Sets.{beam_is, named_descent}
+use Rattle.vs_beam.proofs.Visits.{some_and}
 use Rattle.vs_insert.specs.declared.draft.Chosen.{Chosen}
 use Rattle.vs_insert.specs.Drafts.{ids_of, names_of, chosen_at, names_down, AreChoices, AreOwnChoices, HaveBodies}
 use Rattle.vs_insert.specs.Joined.{layers_below}
@@ -39,7 +42,6 @@ use Rattle.vs_insert.specs.Choosing.{everyone, IsLayerChosen, AreChosenFrom, dra
 use Rattle.vs_insert.proofs.Found.{found_stand, found_keys, found_once}
 use Rattle.vs_insert.proofs.Stepping.{names_chosen}
 use Rattle.vs_insert.proofs.Named.{layers_are, level_of_member}
-use Rattle.vs_insert.proofs.Adding.{some_of}
 
 -- ---- at one layer
 
@@ -62,18 +64,6 @@ choices_are at m layer start ef query tried expanded found bodies list ids beam 
       few = subst (λ n. n ≤ m) (ap length (sym is) ∙ length-map list (λ (c : Chosen). c.id)) (omega (arith, chosen_few bodies m [] found (omega arith)));
     } in
     record { choices = choices; bodies = with_bodies }
-
-words_same : (o : Option Node) → option_map_or (λ n. n.body.bits) o [] ≡ option_map_or (λ body. body.bits) (option_map (λ n. n.body) o) []
-words_same None = refl
-words_same (Some n) = refl
-
-some_node : (layer : ℕ) (o : Option Node) → IsSomeAnd o (λ n. layer ≤ n.level) → IsSome o
-some_node layer None h = absurd h
-some_node layer (Some n) h = refl
-
-fits_node : (layer m dim : ℕ) (o : Option Node) → IsSomeAnd o (λ n. layer ≤ n.level) → IfSome o (IsGoodNode m dim) → FitsDimension dim (option_map_or (λ body. body.bits) (option_map (λ n. n.body) o) [])
-fits_node layer m dim None h g = absurd h
-fits_node layer m dim (Some n) h g = g.words
 
 first_named : (at : ℕ → Option Node) (found : List Key) (next : ℕ) → option_map (λ (key : Key). key.id) (slice_get found 0) ≡ Some next → first_in (keys_named at found) ≡ Some (name_of at next)
 first_named at [] next h = absurd (none-some next h)
@@ -153,14 +143,6 @@ filled_down lists n =
     ap (map names_of) (reverse-append (reverse lists) (replicate n []) ∙ ap (λ l. l ++ reverse (reverse lists)) (reverse_replicate n) ∙ ap (λ l. replicate n [] ++ l) (reverse-reverse lists))
     ∙ map-append names_of (replicate n []) lists ∙ ap (λ l. l ++ map names_of lists) (map_replicate n)
 
-no_layers_by : (b : Bool) (top low : ℕ) (ls : List ℕ) → leb low top ≡ b → top < low → cond b ls [] ≡ []
-no_layers_by true top low ls e h = absurd (omega (arith, leb-true low top e, h))
-no_layers_by false top low ls e h = refl
-
-no_layers : (top low : ℕ) → top < low → layers_down top low ≡ []
-no_layers zero low h = no_layers_by (leb low 0) 0 low (0 ∷ []) refl h
-no_layers (suc high) low h = no_layers_by (leb low (suc high)) (suc high) low (suc high ∷ layers_down high low) refl h
-
 module _ (at : ℕ → Option Node) (m dim level ef : ℕ) (query : List ℕ) (fits : FitsDimension dim query) (lists : List (List Chosen)) where
   pub as_drafted : (count : ℕ) → length lists ≡ count → count ≤ level + 1 → ((layer : ℕ) → AreOwnChoices at m layer (chosen_at (reverse lists) layer))
       → AreOwnDrafted at m level (reverse lists ++ replicate (level + 1 - length lists) [])
@@ -189,7 +171,7 @@ module _ (at : ℕ → Option Node) (m dim level ef : ℕ) (query : List ℕ) (f
     here cut ids = set_of at (Some e) m dim cut ids
 
     entry_some : IsSome (at e)
-    entry_some = some_of (at e) _ good.top
+    entry_some = some_and (at e) _ good.top
 
     top_named : (cut : ℕ) (ids : List ℕ) → AreIds at ids → beams.level_at (here cut ids) (name_of at e) ≡ top
     top_named cut ids are_ids =
@@ -328,7 +310,7 @@ own_bodies at m level chosen own layer = (own.lists layer).bodies
 
 pub entry_none : (at : ℕ → Option Node) (entry : Option ℕ) (limit : ℕ) → IsEntry at entry → ((id : ℕ) → IsSome (at id) → id < limit) → limit ≡ 0 → entry ≡ None
 entry_none at None limit top low none = refl
-entry_none at (Some e) limit top low none = absurd (omega (arith, none, low e (some_of (at e) _ top)))
+entry_none at (Some e) limit top low none = absurd (omega (arith, none, low e (some_and (at e) _ top)))
 
 module _ (at : ℕ → Option Node) (m dim level start top ef : ℕ) (query stops : List ℕ) (fits : FitsDimension dim query) where
   pub lists_drafted : (entry : Option ℕ) (lists : List (List Chosen)) → IsGood at entry m dim → IsSomeAnd entry (λ e. IsDescent at e query (level + 1) start top stops) → AreChosenFrom at entry m dim start (min level top + 1) ef query lists

@@ -3,7 +3,7 @@ use Rattle.std.proofs.Common.{◌≡◌, ℕ, ◌+◌, ◌<◌, ◌≤◌, List,
 use Rattle.std.specs.Prelude.{Some, None, nat_lt}
 use Rattle.std.specs.declared.option.Option.{Option}
 use Rattle.std.proofs.Math.Nat.{min-le_left, min-eq_right}
-use Rattle.std.proofs.lemmas.Bool.{cond-true, cond-false, lt-ltb, ltb-true, cases_lt}
+use Rattle.std.proofs.lemmas.Bool.{cond-true, cond-false, lt-ltb, ltb-true, cases_lt, false_from_ne_true}
 use Rattle.vs_defs.specs.Words.{FitsDimension}
 use Rattle.vs_graph.specs.declared.node.Node.{Node}
 use Rattle.vs_graph.specs.declared.edit.Edit.{Edit}
@@ -11,7 +11,6 @@ use Rattle.vs_graph.specs.Edits.{changed, overwritten}
 use Rattle.vs_graph.specs.Good.{AreLinksGood}
 use Rattle.vs_graph.specs.Newcomer.{ChangesAt}
 use Rattle.vs_graph.proofs.Renaming.{no_change}
-use Rattle.vs_graph.proofs.Lists.{not_true}
 use Rattle.vs_beam.specs.Beam.{level_at}
 use Rattle.vs_insert.specs.declared.draft.Chosen.{Chosen}
 use Rattle.vs_insert.specs.Joined.{layers_shared, IsJoinedFrom}
@@ -46,7 +45,7 @@ higher at e id level h =
 lower : (at : ℕ → Option Node) (e id level : ℕ) → level < min (level_at at e) level + 1 → entry_after at (Some e) id level ≡ Some e
 lower at e id level h =
     cond-false (nat_lt (level_at at e) level) (Some id) (Some e)
-    (not_true (nat_lt (level_at at e) level) (λ k. absurd (omega (arith, ltb-true (level_at at e) level k, h, min-le_left (level_at at e) level))))
+    (false_from_ne_true (nat_lt (level_at at e) level) (λ k. absurd (omega (arith, ltb-true (level_at at e) level k, h, min-le_left (level_at at e) level))))
 
 -- where the new member stands at a layer at which nobody else does, it is the entry
 pub entry_taken : (at : ℕ → Option Node) (entry : Option ℕ) (id level : ℕ) → layers_shared at entry level ≤ level → entry_after at entry id level ≡ Some id

@@ -1,13 +1,13 @@
 -- The entry of a graph after one member is out.
 --     entry_kept, entry_named      where it wasn't the entry
 --     entry_new, highest_now       where it was
-use Rattle.std.proofs.Common.{◌≡◌, ◌≢◌, ℕ, ◌<◌, ◌≤◌, ◌+◌, Bool, true, false, not, cond, eqb, List, [], ◌∷◌, refl, sym, ap, ◌∙◌, subst, arith, is_some, inl, inr}
-use Rattle.std.specs.Prelude.{Some, None, IsSome, IsSomeAnd, IfSome, nat_lt, option_map, filter}
+use Rattle.std.proofs.Common.{◌≡◌, ◌≢◌, ℕ, ◌<◌, ◌≤◌, ◌+◌, Bool, true, false, cond, eqb, List, refl, sym, ap, ◌∙◌, subst, arith, is_some, inl, inr}
+use Rattle.std.specs.Prelude.{Some, None, IsSome, IsSomeAnd, IfSome, nat_lt, option_map}
 use Rattle.std.specs.Ordering.{nat_cmp, ordering_then, is_gt}
 use Rattle.std.specs.declared.option.Option.{Option}
 use Rattle.std.specs.declared.cmp.Ordering.{Ordering}
 use Rattle.std.specs.declared.cmp.Ordering.TheVariants.{Less, Equal, Greater}
-use Rattle.std.proofs.lemmas.Bool.{both_ways, cases_eq, eqb-true, ltb-true, cond-true, cond-false}
+use Rattle.std.proofs.lemmas.Bool.{both_ways, cases_eq, eqb-true, ltb-true, cond-true, cond-false, false_from_ne_true}
 use Rattle.std.proofs.lemmas.Slice.Eq.{bytes_eq-Decides}
 use Rattle.vs_defs.specs.Bytes.{same_name}
 use Rattle.vs_defs.specs.Removal as rules
@@ -17,13 +17,14 @@ use Rattle.vs_graph.specs.Edits.{overwritten}
 use Rattle.vs_graph.specs.Good.{IsEntry, AreLinksGood}
 use Rattle.vs_graph.specs.Table.{without}
 use Rattle.vs_graph.specs.Standing.{AreIds, members_of, name_of, set_of}
-use Rattle.vs_graph.proofs.Lists.{not_true}
 use Rattle.vs_graph.proofs.Standing.{names_differ}
 use Rattle.vs_insert.specs.Height.{height, IsHighestBelow}
 use Rattle.vs_unlink.specs.Unlinked.{IsWithout}
+use Rattle.vs_unlink.proofs.Detached.{twice}
 use Rattle.vs_insert.specs.Rejoined.{HasAnother}
 use Rattle.vs_insert.specs.Turns.{IsTopBeside, NobodyElse}
 use Rattle.vs_insert.proofs.Leavings.{name_left, members_left}
+use Rattle.vs_beam.proofs.Visits.{some_and}
 
 -- ---- the old one
 
@@ -31,7 +32,7 @@ pub entry_named : (at : ℕ → Option Node) (m dim cut x e : ℕ) (ids : List �
     → Some (name_of at e) ≡ rules.entry_without (name_of at x) (set_of at (Some e) m dim cut ids)
 entry_named at m dim cut x e ids good are some_x some_e ne =
     let other : same_name (name_of at x) (name_of at e) ≡ false
-    = not_true (same_name (name_of at x) (name_of at e))
+    = false_from_ne_true (same_name (name_of at x) (name_of at e))
     (λ h. ne (sym (names_differ at m dim ids good are x e (are.live x ∙ some_x) (are.live e ∙ some_e) ((bytes_eq-Decides (name_of at x) (name_of at e)).0 h)))) in
     sym (cond-false (same_name (name_of at x) (name_of at e)) (rules.highest (rules.all_but (name_of at x) (members_of at dim ids))) (Some (name_of at e)) other)
 
@@ -65,20 +66,11 @@ highest_now now x (Some b) gone h = by (now b) refl where
     lower None k = tt
     lower (Some other) k = level_le other.level n.level _ k
 
-without_twice_step : (x y : ℕ) (ys rest : List ℕ) (b : Bool) → eqb y x ≡ b → filter (λ z. not (eqb z x)) rest ≡ rest → filter (λ z. not (eqb z x)) (cond (not b) (y ∷ rest) rest) ≡ cond (not b) (y ∷ rest) rest
-without_twice_step x y ys rest true e h = h
-without_twice_step x y ys rest false e h =
-    cond-true (not (eqb y x)) (y ∷ filter (λ z. not (eqb z x)) rest) (filter (λ z. not (eqb z x)) rest) (ap not e) ∙ ap (λ l. y ∷ l) h
-
-without_twice : (x : ℕ) (ids : List ℕ) → without x (without x ids) ≡ without x ids
-without_twice x [] = refl
-without_twice x (y ∷ ys) = without_twice_step x y ys (without x ys) (eqb y x) refl (without_twice x ys)
-
 pub entry_new : (at now : ℕ → Option Node) (m dim cut x : ℕ) (best : Option ℕ) (ids : List ℕ) → AreLinksGood at m dim → AreIds at ids → IsWithout at now x
     → IfSome best (λ b. b ≢ x) → rules.highest (members_of now dim (without x (without x ids))) ≡ option_map (name_of now) best
     → option_map (name_of at) best ≡ rules.entry_without (name_of at x) (set_of at (Some x) m dim cut ids)
 entry_new at now m dim cut x best ids good are gone other named =
-    names best other ∙ sym named ∙ ap (λ l. rules.highest (members_of now dim l)) (without_twice x ids) ∙ ap rules.highest (members_left at now x m dim ids good are gone)
+    names best other ∙ sym named ∙ ap (λ l. rules.highest (members_of now dim l)) (twice x ids) ∙ ap rules.highest (members_left at now x m dim ids good are gone)
     ∙ sym (cond-true (same_name (name_of at x) (name_of at x)) (rules.highest (rules.all_but (name_of at x) (members_of at dim ids))) (Some (name_of at x)) ((bytes_eq-Decides (name_of at x) (name_of at x)).1 refl)) where
       names : (o : Option ℕ) → IfSome o (λ b. b ≢ x) → option_map (name_of at) o ≡ option_map (name_of now) o
       names None h = refl
@@ -86,12 +78,8 @@ entry_new at now m dim cut x best ids good are gone other named =
 
 -- ---- the steps of the code
 
-some_of : (o : Option Node) (P : Node → Type 0) → IsSomeAnd o P → IsSome o
-some_of None P h = absurd h
-some_of (Some node) P h = refl
-
 pub entry_live : (at : ℕ → Option Node) (entry : Option ℕ) (e : ℕ) → Some e ≡ entry → IsEntry at entry → IsSome (at e)
-entry_live at entry e is top = some_of (at e) _ (subst (IsEntry at) (sym is) top)
+entry_live at entry e is top = some_and (at e) _ (subst (IsEntry at) (sym is) top)
 
 pub other_of : (now : ℕ → Option Node) (x : ℕ) (best : Option ℕ) → IsHighestBelow now x 0 best → IfSome best (λ b. b ≢ x)
 other_of now x None h = tt
@@ -137,7 +125,7 @@ nobody_beside now layer y h z ne s = by (now z) (h z ne) s where
   by (Some n) e k = both_ways true (ap is_some e) refl
 
 pub beside_live : (now : ℕ → Option Node) (y z : ℕ) → IsTopBeside now y (Some z) → IsSome (now z)
-beside_live now y z h = some_of (now z) _ h.1
+beside_live now y z h = some_and (now z) _ h.1
 
 -- by its level
 pub beside_stands : (now : ℕ → Option Node) (layer y z : ℕ) (n : Node) → IsTopBeside now y (Some z) → now z ≡ Some n → layer ≤ n.level → HasAnother now layer y

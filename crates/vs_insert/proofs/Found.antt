@@ -4,7 +4,7 @@ use Rattle.std.specs.Prelude.{Some, nat_eq, filter, slice_get, All}
 use Rattle.std.specs.List.{IsDistinct}
 use Rattle.std.specs.List.Sorted.{IsPermutation}
 use Rattle.std.specs.declared.option.Option.{Option}
-use Rattle.std.proofs.lemmas.Bool.Decides.{nat_tests, Decides-eqb}
+use Rattle.std.proofs.lemmas.Bool.Decides.{Decides-eqb}
 use Rattle.std.proofs.lemmas.Map.Keys.{IsDistinct-IsPermutation, IsDistinct-head, IsDistinct-tail, IsDistinct-cons}
 use Rattle.std.proofs.lemmas.Map.Made.{IsDistinct-from_AllPairs}
 use Rattle.std.proofs.lemmas.List.{length-map}
@@ -12,14 +12,12 @@ use Rattle.std.proofs.lemmas.List.Elements.{All-map, All-take, All-from_recursio
 use Rattle.std.proofs.lemmas.List.Sorted.{All-permutation, IsPermutation-map, length_permutation}
 use Rattle.vs_graph.specs.declared.node.Node.{Node}
 use Rattle.vs_graph.specs.Good.{StandsAt}
+use Rattle.vs_graph.proofs.CommonLaws.{nat_eq_flips}
 use Rattle.vs_rank.specs.declared.Key.{Key}
 use Rattle.vs_rank.proofs.Keys.{same_sorted}
 use Rattle.vs_beam.specs.Beam.{key_at, ranked, IsBeam}
 use Rattle.vs_beam.proofs.Steps.{ranked_keys}
 use Rattle.vs_insert.specs.Choosing.{everyone}
-
-flips : (x y : ℕ) → nat_eq x y ≡ nat_eq y x
-flips x y = grind (arith, nat_tests)
 
 all_pass : (xs : List Key) → filter (λ (key : Key). true) xs ≡ xs
 all_pass [] = refl
@@ -67,7 +65,7 @@ module _ (at : ℕ → Option Node) (layer start ef : ℕ) (query tried expanded
   found_once =
       subst (λ l. IsDistinct nat_eq (map (λ (key : Key). key.id) l)) (sym found_is)
       (subst (IsDistinct nat_eq) (sym (take_map_ids ef (ranked at query tried)))
-      (distinct_take ef (map (λ (key : Key). key.id) (ranked at query tried)) (IsDistinct-IsPermutation nat_eq flips tried (map (λ (key : Key). key.id) (ranked at query tried)) ranked_ids (IsDistinct-from_AllPairs Decides-eqb tried beam.once))))
+      (distinct_take ef (map (λ (key : Key). key.id) (ranked at query tried)) (IsDistinct-IsPermutation nat_eq nat_eq_flips tried (map (λ (key : Key). key.id) (ranked at query tried)) ranked_ids (IsDistinct-from_AllPairs Decides-eqb tried beam.once))))
 
   pub ranked_long : length (ranked at query tried) ≡ length tried
   ranked_long = sym (length-map (ranked at query tried) (λ (key : Key). key.id)) ∙ length_permutation _ _ ranked_ids

@@ -2,12 +2,11 @@
 use Rattle.std.proofs.Common.{◌≡◌, ◌≢◌, ◌⊎◌, ℕ, ◌+◌, ◌<◌, true, false, not, eqb, List, [], ◌∷◌, refl, sym, ap, ◌∙◌, subst, arith, inl, inr}
 use Rattle.std.specs.Prelude.{Some, None, IsSome, is_some, IsSomeAnd, IfSome, find, option_map}
 use Rattle.std.specs.Option.{option_map_or}
-use Rattle.std.specs.Ordering.{ordering_then, is_lt, is_gt}
+use Rattle.std.specs.Ordering.{is_lt, is_gt}
 use Rattle.std.specs.Cmp.{IsTotalOrder}
-use Rattle.std.specs.declared.cmp.Ordering.{Ordering}
-use Rattle.std.specs.declared.cmp.Ordering.TheVariants.{Less, Equal, Greater}
+use Rattle.std.specs.declared.cmp.Ordering.TheVariants.{Less}
 use Rattle.std.specs.declared.option.Option.{Option}
-use Rattle.std.proofs.lemmas.Bool.{cases_eq, both_ways, eqb-false, ne_eqb, not_from_false, not-true}
+use Rattle.std.proofs.lemmas.Bool.{cases_eq, both_ways, eqb-false, ne_eqb, not_from_false, not-true, false_from_ne_true}
 use Rattle.std.proofs.lemmas.Option.{same_Some}
 use Rattle.std.proofs.lemmas.Cmp.{nat_cmp_total, nat_list_cmp_total, then_total, on_total, back_total, upto}
 use Rattle.std.proofs.lemmas.Map.Lookups.{exact_bytes}
@@ -18,12 +17,13 @@ use Rattle.vs_graph.specs.declared.node.Node.{Node}
 use Rattle.vs_graph.specs.Good.{AreLinksGood}
 use Rattle.vs_graph.specs.Named.{is_live}
 use Rattle.vs_graph.specs.Standing.{AreIds, member_of_node, member_at, members_of, name_of}
-use Rattle.vs_graph.proofs.Lists.{not_true}
 use Rattle.vs_graph.proofs.Sorts.{In, in_map, from_map, in_filter, from_filter, in_from_test, test_from_in, find_is, sorted_is, in_sort, from_sort, less_or_same, lt_is_gt, gt_back}
 use Rattle.vs_graph.proofs.Standing.{member_name, names_differ}
 use Rattle.vs_graph.specs.Table.{without}
+use Rattle.vs_graph.proofs.CommonLaws.{second_equal}
 use Rattle.vs_unlink.proofs.Leavings.{members_left}
 use Rattle.vs_insert.specs.Height.{height, IsHighestBelow}
+use Rattle.vs_beam.proofs.Visits.{some_and}
 
 -- ---- the order
 
@@ -34,7 +34,7 @@ node_total : IsTotalOrder height
 node_total = then_total (on_total (λ (x : Node). x.level) (back_total nat_cmp_total)) (on_total (λ (x : Node). x.body.name) nat_list_cmp_total)
 
 not_above_itself : (n : Node) → is_gt (height n n) ≡ false
-not_above_itself n = not_true (is_gt (height n n)) (λ h. both_ways (is_gt (height n n)) (gt_back height node_total n n h) h)
+not_above_itself n = false_from_ne_true (is_gt (height n n)) (λ h. both_ways (is_gt (height n n)) (gt_back height node_total n n h) h)
 
 -- ---- one id more
 
@@ -89,11 +89,6 @@ first_find : (ys : List Member) → find (λ (z : Member). true) ys ≡ first_in
 first_find [] = refl
 first_find (y ∷ ys) = refl
 
-then_second : (a b : Ordering) → ordering_then a b ≡ Equal → b ≡ Equal
-then_second Less b h = absurd (both_ways true (ap is_lt h) refl)
-then_second Equal b h = h
-then_second Greater b h = absurd (both_ways true (ap is_gt h) refl)
-
 heights : (dim : ℕ) (o p : Option Node) → IsSomeAnd o (λ n. IfSome p (λ k. is_gt (height n k) ≡ false)) → IsSome p
     → is_gt (rules.height (option_map_or (member_of_node dim) o no_member) (option_map_or (member_of_node dim) p no_member)) ≡ false
 heights dim None p h some = absurd h
@@ -104,10 +99,6 @@ spread : (at : ℕ → Option Node) (but count q : ℕ) (o : Option Node) → Is
     → IsSomeAnd o (λ n. IfSome (at q) (λ k. is_gt (height n k) ≡ false))
 spread at but count q None h low ne = h
 spread at but count q (Some n) h low ne = h q low ne
-
-some_and : (o : Option Node) (P : Node → Type 0) → IsSomeAnd o P → IsSome o
-some_and None P h = absurd h
-some_and (Some n) P h = refl
 
 module _ (at : ℕ → Option Node) (m dim : ℕ) (ids : List ℕ) (good : AreLinksGood at m dim) (are : AreIds at ids) (but count : ℕ) (low : (q : ℕ) → IsSome (at q) → q < count) where
   abbrev others : List Member
@@ -138,7 +129,7 @@ module _ (at : ℕ → Option Node) (m dim : ℕ) (ids : List ℕ) (good : AreLi
         elim (less_or_same (rules.height w (member_at at dim q.0)) not_above) [
           | inl less ↦ inr (ap (rules.height w) (sym q.2) ∙ less)
           | inr tie ↦
-              let names : w.name ≡ (member_at at dim q.0).name = exact_bytes w.name (member_at at dim q.0).name (then_second _ _ tie) in
+              let names : w.name ≡ (member_at at dim q.0).name = exact_bytes w.name (member_at at dim q.0).name (second_equal _ _ tie) in
               let same : b ≡ q.0 = names_differ at m dim ids good are b q.0 live_b (test_from_in q.0 ids other.0) (sym (member_name at m dim b) ∙ names ∙ member_name at m dim q.0) in
               inl (sym q.2 ∙ ap (member_at at dim) (sym same))
         ]

@@ -12,9 +12,8 @@ use Rattle.vs_graph.specs.Table.{without}
 use Rattle.vs_graph.specs.Standing.{AreIds, members_of, name_of}
 use Rattle.vs_graph.proofs.Lists.{has_without, distinct_without}
 use Rattle.vs_unlink.specs.Unlinked.{IsWithout}
-use Rattle.vs_unlink.proofs.Layers.{body_bare}
 use Rattle.vs_unlink.proofs.Leavings as leavings
-use Rattle.vs_insert.proofs.Bare.{live_bare}
+use Rattle.vs_unlink.proofs.Bare.{body_bare, live_bare}
 
 -- ---- the members without one
 

@@ -4,7 +4,7 @@ use Rattle.std.specs.Prelude.{Some, None, IsSome, is_some, IsSomeAnd, IfSome, na
 use Rattle.std.specs.List.{list_any}
 use Rattle.std.specs.Option.{option_map_or}
 use Rattle.std.specs.declared.option.Option.{Option}
-use Rattle.std.proofs.lemmas.Bool.{cases_eq, cond-true, le-leb, both_ways, ne_eqb, eq-eqb}
+use Rattle.std.proofs.lemmas.Bool.{cases_eq, cond-true, le-leb, both_ways, ne_eqb, eq-eqb, false_from_ne_true}
 use Rattle.std.proofs.lemmas.List.{map-append}
 use Rattle.vs_defs.specs.Bytes.{Bytes}
 use Rattle.vs_defs.specs.Store.{Member, no_member}
@@ -20,20 +20,21 @@ use Rattle.vs_graph.specs.Named.{is_live, IsLiveName, IsNamed}
 use Rattle.vs_graph.specs.Standing.{AreIds, member_of_node, member_at, members_of, name_of, named_links, set_of}
 use Rattle.vs_graph.specs.Table.{is_in}
 use Rattle.vs_graph.proofs.Goods.{contains_from}
-use Rattle.vs_graph.proofs.Lists.{not_true, has_push, distinct_push, or_false}
+use Rattle.vs_graph.proofs.Lists.{has_push, distinct_push, or_false}
 use Rattle.vs_graph.proofs.Newcomers.{same_links}
 use Rattle.vs_graph.proofs.Naming.{names_fixed}
-use Rattle.vs_graph.proofs.Sorts.{test_from_in}
+use Rattle.vs_graph.proofs.Sorts.{test_from_in, map_same_in}
 use Rattle.vs_graph.proofs.Standing.{member_there, are_named}
+use Rattle.vs_graph.proofs.NodeLaws.{none_stands}
 use Rattle.vs_beam.specs.Beam.{level_at}
 use Rattle.vs_unlink.specs.Unlinked.{bare}
 use Rattle.vs_insert.specs.declared.draft.Chosen.{Chosen}
 use Rattle.vs_insert.specs.Drafts.{names_down}
 use Rattle.vs_insert.specs.Joined.{layers_below, IsJoinedFrom}
 use Rattle.vs_insert.specs.Added.{entry_after}
-use Rattle.vs_unlink.proofs.Leavings.{map_same_in, same_member_by}
+use Rattle.vs_unlink.proofs.Leavings.{same_member_by}
 use Rattle.vs_insert.proofs.Bare.{names_same, members_same, ids_on, ids_back}
-use Rattle.vs_insert.proofs.Adding.{none_stands, mid_good}
+use Rattle.vs_insert.proofs.Adding.{mid_good}
 use Rattle.vs_insert.proofs.Stepping.{links_ext}
 
 pub layers_are : (n : ℕ) → layers_down n 0 ≡ layers_below (suc n)
@@ -83,7 +84,7 @@ module _ (at mid : ℕ → Option Node) (entry : Option ℕ) (m dim id : ℕ) (n
     known l = are_named at m dim ids good.links are
 
     not_linked : (l : ℕ) (a b : Bytes) → (a ≡ node.body.name) ⊎ (b ≡ node.body.name) → named_links at ids l a b ≡ false
-    not_linked l a b which = not_true (named_links at ids l a b) (λ h.
+    not_linked l a b which = false_from_ne_true (named_links at ids l a b) (λ h.
         let w = (known l).within l a b h in
         elim which [
           | inl e ↦ live_name (at w.0.0) node.body.name (sym (are.live w.0.0) ∙ w.0.1) (newcomer.name w.0.0) (w.0.2 ∙ e)
@@ -95,7 +96,7 @@ module _ (at mid : ℕ → Option Node) (entry : Option ℕ) (m dim id : ℕ) (n
 
     none_to : (l a : ℕ) → is_in (links_at mid l) a id ≡ false
     none_to l a = ap (λ xs. list_any (nat_eq id) xs) (same_links at mid id node newcomer change l a)
-        ∙ not_true (is_in (links_at at l) a id) (λ h. none_stands (at id) l newcomer.free (good.links.stand l a id (contains_from (links_at at l a) id h)))
+        ∙ false_from_ne_true (is_in (links_at at l) a id) (λ h. none_stands (at id) l newcomer.free (good.links.stand l a id (contains_from (links_at at l a) id h)))
 
     same_by : (l a b : ℕ) → is_live all a ≡ true → is_live all b ≡ true → named_links at ids l (name_of mid a) (name_of mid b) ≡ is_in (links_at mid l) a b
     same_by l a b la lb =

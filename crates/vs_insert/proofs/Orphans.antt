@@ -18,8 +18,9 @@ use Rattle.vs_graph.specs.GoodTable.{KeepsLinked}
 use Rattle.vs_graph.specs.Relinks.{Relinks}
 use Rattle.vs_graph.specs.Bodies.{Bodies}
 use Rattle.vs_graph.proofs.Goods.{layers_from}
-use Rattle.vs_graph.proofs.Lists.{head_absent}
-use Rattle.vs_graph.proofs.Sorts.{In, in_filter, from_filter, filter_of_map}
+use Rattle.vs_graph.proofs.Lists.{head_absent, distinct_filter}
+use Rattle.vs_graph.proofs.Sorts.{In, in_filter, from_filter, filter_of_map, all_in}
+use Rattle.vs_graph.proofs.NodeLaws.{some_node}
 use Rattle.vs_rank.specs.declared.Key.{Key}
 use Rattle.vs_link.specs.Linked.{linked, AreChosen}
 use Rattle.vs_link.specs.Selected.{is_choice, selected_behind, selected}
@@ -27,12 +28,11 @@ use Rattle.vs_link.proofs.Chosen.{chosen_all, chosen_few, chosen_once}
 use Rattle.vs_beam.specs.Beam.{ranked, IsBeam}
 use Rattle.vs_beam.proofs.Steps.{has_first}
 use Rattle.vs_unlink.specs.Unlinked.{IsWithout}
-use Rattle.vs_unlink.proofs.Remaining.{some_node, stands_yet}
+use Rattle.vs_unlink.proofs.Remaining.{stands_yet}
+use Rattle.vs_unlink.proofs.Bare.{live_bare}
 use Rattle.vs_insert.specs.Choosing.{everyone}
 use Rattle.vs_insert.specs.Height.{height}
 use Rattle.vs_insert.specs.Rejoined.{HasAnother, others_of, IsStart, IsOrphansChoice, IsRejoined}
-use Rattle.vs_unlink.proofs.Reordered.{distinct_filter}
-use Rattle.vs_insert.proofs.Bare.{live_bare}
 use Rattle.vs_insert.proofs.Found.{found_is, found_stand, found_once, ranked_ids, ranked_long}
 
 -- ---- lists
@@ -131,11 +131,6 @@ start_may now entry layer y start is top stands another =
     ]
 
 -- ---- what is left of what was found
-
-pub all_in : {X : Type 0} (P : X → Type 0) (xs : List X) → ((x : X) → In x xs → P x) → All P xs
-all_in P [] h k d less = absurd (omega (arith, less))
-all_in P (x ∷ xs) h zero d less = h x (inl refl)
-all_in P (x ∷ xs) h (suc k) d less = all_in P xs (λ y i. h y (inr i)) k d (omega (arith, less))
 
 pub in_all : {X : Type 0} (P : X → Type 0) (x : X) (xs : List X) → All P xs → In x xs → P x
 in_all P x [] h i = absurd i

@@ -1,9 +1,9 @@
 -- An orphan that is joined by ids is joined as the definitions say, by names.
-use Rattle.std.proofs.Common.{◌≡◌, ◌≢◌, ℕ, ◌<◌, ◌≤◌, ◌^◌, Bool, true, not, ◌&&◌, eqb, List, [], length, map, refl, sym, ap, ◌∙◌, subst, arith, inl, inr}
-use Rattle.std.specs.Prelude.{Some, None, IsSome, is_some, IsSomeAnd, IfSome, filter, option_map}
+use Rattle.std.proofs.Common.{◌≡◌, ◌≢◌, ℕ, ◌<◌, ◌^◌, Bool, true, not, ◌&&◌, eqb, List, [], length, map, refl, sym, ap, ◌∙◌, subst, arith, inl, inr}
+use Rattle.std.specs.Prelude.{Some, None, IsSome, is_some, filter, option_map}
 use Rattle.std.specs.Option.{option_map_or}
 use Rattle.std.specs.declared.option.Option.{Option}
-use Rattle.std.proofs.lemmas.Bool.{cases_eq, both_ways, cond-true, cond-false, eq-eqb, ne_eqb}
+use Rattle.std.proofs.lemmas.Bool.{cases_eq, both_ways, cond-true, cond-false, eq-eqb, ne_eqb, false_from_ne_true}
 use Rattle.std.proofs.lemmas.Slice.Eq.{bytes_eq-Decides}
 use Rattle.vs_defs.specs.Bytes.{same_name}
 use Rattle.vs_defs.specs.Links.{bits_at}
@@ -13,25 +13,23 @@ use Rattle.vs_defs.specs.Insertion.{SameLinks, pass_all}
 use Rattle.vs_defs.specs.Removal as rules
 use Rattle.vs_defs.specs.Beam as beams
 use Rattle.vs_defs.specs.Vector.{ham}
-use Rattle.vs_insert.proofs.Adding.{some_of}
-use Rattle.vs_unlink.proofs.Leavings.{map_same_in}
-use Rattle.vs_unlink.proofs.Layers.{body_bare}
 use Rattle.vs_graph.specs.declared.node.Node.{Node}
-use Rattle.vs_graph.specs.Good.{body_at, layers_at, links_at, StandsAt, IsGoodNode, AreLinksGood, IsEntry, IsGood}
+use Rattle.vs_graph.specs.Good.{body_at, layers_at, links_at, StandsAt, AreLinksGood, IsEntry, IsGood}
 use Rattle.vs_graph.specs.Bodies.{words_at}
 use Rattle.vs_graph.specs.Named.{is_live}
 use Rattle.vs_graph.specs.Table.{without}
 use Rattle.vs_graph.specs.Standing.{AreIds, members_of, name_of, named_links, set_of}
-use Rattle.vs_graph.proofs.Lists.{not_true}
-use Rattle.vs_graph.proofs.Sorts.{In, from_filter, filter_of_map, filter_same}
+use Rattle.vs_graph.proofs.Sorts.{In, from_filter, filter_of_map, filter_same, map_same_in, all_in}
 use Rattle.vs_graph.proofs.Standing.{names_differ, bits_there}
 use Rattle.vs_rank.specs.declared.Key.{Key}
 use Rattle.vs_link.proofs.Bynames.{named_whole}
 use Rattle.vs_link.proofs.Chosen.{behind_named}
 use Rattle.vs_graph.proofs.Standing.{are_members}
+use Rattle.vs_graph.proofs.NodeLaws.{some_node, fits_node}
 use Rattle.vs_beam.specs.Beam.{key_at, ranked}
 use Rattle.vs_beam.specs.Named.{keys_named}
 use Rattle.vs_beam.proofs.Sets.{beam_is}
+use Rattle.vs_beam.proofs.Visits.{some_and}
 use Rattle.vs_insert.specs.Choosing.{everyone}
 use Rattle.vs_unlink.specs.Unlinked.{IsWithout}
 use Rattle.vs_insert.specs.Rejoined.{IsRejoined, HasAnother, others_of}
@@ -39,12 +37,9 @@ use Rattle.vs_insert.proofs.Choices.{dist_named}
 use Rattle.vs_insert.proofs.Found.{found_stand, found_keys}
 use Rattle.vs_insert.proofs.Heights.{highest_named}
 use Rattle.vs_insert.proofs.Leavings.{ids_left, name_left, members_left}
-use Rattle.vs_unlink.proofs.Remaining.{some_node, stood, stands_yet, not_x}
-use Rattle.vs_insert.proofs.Orphans.{in_all, all_in, start_may, was_live}
-
-fits_of : (layer m dim : ℕ) (o : Option Node) → IsSomeAnd o (λ n. layer ≤ n.level) → IfSome o (IsGoodNode m dim) → FitsDimension dim (option_map_or (λ body. body.bits) (option_map (λ n. n.body) o) [])
-fits_of layer m dim None h g = absurd h
-fits_of layer m dim (Some n) h g = g.words
+use Rattle.vs_unlink.proofs.Remaining.{stood, stands_yet, not_x}
+use Rattle.vs_unlink.proofs.Bare.{body_bare}
+use Rattle.vs_insert.proofs.Orphans.{in_all, start_may, was_live}
 
 module _ (at now new : ℕ → Option Node) (top : Option ℕ) (m dim entry layer y x cut : ℕ) (ids : List ℕ) (good : IsGood at top m dim) (are : AreIds at ids) (gone : IsWithout at now x) (left : AreLinksGood now m dim)
     (highest : IsEntry now (Some entry)) (stands : StandsAt now layer y) (free : links_at now layer y ≡ []) (another : HasAnother now layer y) (made : IsRejoined at now new m dim entry layer y) where
@@ -61,7 +56,7 @@ module _ (at now new : ℕ → Option Node) (top : Option ℕ) (m dim entry laye
   same_id a b la lb = elim (cases_eq b a) [
     | inl is ↦ (bytes_eq-Decides (name_of at a) (name_of at b)).1 (ap (name_of at) (sym is)) ∙ sym (eq-eqb b a is)
     | inr ne ↦
-        not_true (same_name (name_of at a) (name_of at b)) (λ h. ne (sym (names_differ at m dim ids good.links are a b la lb ((bytes_eq-Decides (name_of at a) (name_of at b)).0 h))))
+        false_from_ne_true (same_name (name_of at a) (name_of at b)) (λ h. ne (sym (names_differ at m dim ids good.links are a b la lb ((bytes_eq-Decides (name_of at a) (name_of at b)).0 h))))
         ∙ sym (ne_eqb b a ne)
   ]
 
@@ -99,7 +94,7 @@ module _ (at now new : ℕ → Option Node) (top : Option ℕ) (m dim entry laye
   words_kept = ap (λ o. option_map_or (λ body. body.bits) o []) (sym (body_bare (now y)) ∙ ap (option_map (λ n. n.body)) (gone.others y y_not_x) ∙ body_bare (at y))
 
   fits : FitsDimension dim (words_at (body_at now) y)
-  fits = fits_of layer m dim (now y) stands (left.nodes y)
+  fits = fits_node layer m dim (now y) stands (left.nodes y)
 
   bits_are : bits_at (members_of at dim ids) (name_of at y) ≡ bits_of_words dim (words_at (body_at now) y)
   bits_are = bits_there at m dim ids good.links are y (live y y_stood) ∙ ap (bits_of_words dim) (sym words_kept)
@@ -128,7 +123,7 @@ module _ (at now new : ℕ → Option Node) (top : Option ℕ) (m dim entry laye
   -- ---- the start
 
   entry_some : IsSome (now entry)
-  entry_some = some_of (now entry) _ highest
+  entry_some = some_and (now entry) _ highest
 
   entry_not_x : entry ≢ x
   entry_not_x is = both_ways (is_some (now entry)) (ap is_some (ap now is ∙ gone.gone)) entry_some

@@ -1,8 +1,8 @@
 -- What a change of links leaves as it was: who is out, the entry, and links at other layers.
-use Rattle.std.proofs.Common.{◌≡◌, ℕ, ◌<◌, ◌≤◌, true, length, refl, sym, ap, ◌∙◌, subst, inl, inr}
-use Rattle.std.specs.Prelude.{Some, None, is_some, IsSomeAnd, IfSome, option_map}
+use Rattle.std.proofs.Common.{◌≡◌, ℕ, ◌<◌, ◌≤◌, length, refl, sym, ap, ◌∙◌, subst, inl, inr}
+use Rattle.std.specs.Prelude.{Some, None, IsSomeAnd, IfSome, option_map}
 use Rattle.std.specs.declared.option.Option.{Option}
-use Rattle.std.proofs.lemmas.Bool.{both_ways, cases_eq}
+use Rattle.std.proofs.lemmas.Bool.{cases_eq}
 use Rattle.vs_graph.specs.declared.node.Node.{Node}
 use Rattle.vs_graph.specs.Good.{links_at, IsEntry}
 use Rattle.vs_graph.specs.GoodTable.{KeepsLinked}
@@ -10,16 +10,13 @@ use Rattle.vs_graph.specs.Relinks.{Relinks}
 use Rattle.vs_graph.specs.Table.{Table}
 use Rattle.vs_graph.proofs.Goods.{links_elsewhere}
 use Rattle.vs_unlink.specs.Unlinked.{bare, IsWithout}
-
-gone_yet : (o : Option Node) → bare o ≡ None → o ≡ None
-gone_yet None e = refl
-gone_yet (Some node) e = absurd (both_ways true (ap is_some e) refl)
+use Rattle.vs_unlink.proofs.Bare.{still_none}
 
 -- who is out stays out
 pub without_on : (at left now : ℕ → Option Node) (x : ℕ) → ((id : ℕ) → bare (now id) ≡ bare (left id)) → IsWithout at left x → IsWithout at now x
 without_on at left now x rest out = record {
   was = out.was;
-  gone = gone_yet (now x) (rest x ∙ ap bare out.gone);
+  gone = still_none (now x) (rest x ∙ ap bare out.gone);
   others = λ q ne. rest q ∙ out.others q ne;
 }
 

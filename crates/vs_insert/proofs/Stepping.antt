@@ -8,6 +8,7 @@ use Rattle.std.proofs.Math.Path.{fun_ext}
 use Rattle.std.proofs.lemmas.Bool.{cases_eq, cond-false, leb-true, both_ways}
 use Rattle.std.proofs.lemmas.List.{reverse-append}
 use Rattle.std.proofs.lemmas.Slice.Eq.{bytes_eq-Decides}
+use Rattle.std.proofs.Math.Bool.{and-false}
 use Rattle.vs_defs.specs.Bytes.{Bytes, same_name}
 use Rattle.vs_defs.specs.Store.{Member, no_member}
 use Rattle.vs_defs.specs.Links.{Links, neighbours, another_stands}
@@ -48,10 +49,6 @@ none_any : (p : Member → Bool) (f : ℕ → Member) (xs : List ℕ) → ((x : 
 none_any p f [] h = refl
 none_any p f (x ∷ xs) h = ap (λ b. b || list_any p (map f xs)) (h x (inl refl)) ∙ none_any p f xs (λ y k. h y (inr k))
 
-and_false : (p : Bool) → (p && false) ≡ false
-and_false true = refl
-and_false false = refl
-
 too_low : (layer : ℕ) (dim : ℕ) (o : Option Node) → IsSome o → (IsSomeAnd o (λ node. layer ≤ node.level) → ⊥) → (b : Bool) → nat_le layer (option_map_or (member_of_node dim) o no_member).level ≡ b → b ≡ false
 too_low layer dim None some h b e = absurd (both_ways false refl some)
 too_low layer dim (Some node) some h false e = refl
@@ -63,7 +60,7 @@ nobody_else at dim x layer ids are none =
     (λ q inside. elim (cases_eq q x) [
       | inl is ↦
           ap (λ n. nat_le layer (member_at at dim q).level && not (same_name n (member_at at dim q).name)) (ap (name_of at) (sym is) ∙ sym (member_name at 0 dim q))
-          ∙ ap (λ b. nat_le layer (member_at at dim q).level && not b) ((bytes_eq-Decides (member_at at dim q).name (member_at at dim q).name).1 refl) ∙ and_false (nat_le layer (member_at at dim q).level)
+          ∙ ap (λ b. nat_le layer (member_at at dim q).level && not b) ((bytes_eq-Decides (member_at at dim q).name (member_at at dim q).name).1 refl) ∙ and-false (nat_le layer (member_at at dim q).level)
       | inr ne ↦
           ap (λ b. b && not (same_name (name_of at x) (member_at at dim q).name))
           (too_low layer dim (at q) (sym (are.live q) ∙ test_from_in q ids inside) (none q ne) (nat_le layer (member_at at dim q).level) refl)
@@ -74,7 +71,7 @@ pub fallback_same : (m : ℕ) (members : List Member) (links : Links) (x : Bytes
 fallback_same m members links x layer chosen one other none =
     let offered = fold (rules.accepted m members x layer) links chosen in
     let alone : rules.is_alone m members offered layer x ≡ false =
-    ap (λ b. nat_lt (length (neighbours members offered layer x)) 1 && b) none ∙ and_false (nat_lt (length (neighbours members offered layer x)) 1) in
+    ap (λ b. nat_lt (length (neighbours members offered layer x)) 1 && b) none ∙ and-false (nat_lt (length (neighbours members offered layer x)) 1) in
     cond-false (rules.is_alone m members offered layer x) (rules.forced m members offered layer x (rules.forced_target m members chosen one)) offered alone
     ∙ sym (cond-false (rules.is_alone m members offered layer x) (rules.forced m members offered layer x (rules.forced_target m members chosen other)) offered alone)
 

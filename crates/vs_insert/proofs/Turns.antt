@@ -2,11 +2,11 @@
 --     turn_kept, turn_rest, turn_good      who had a link has one, all else stays, and the links are good
 --     turn_settled                         the orphan has a link where another stands
 --     turn_walks                           the walk by names goes on after it
-use Rattle.std.specs.Option.{option_map_or}
 use Rattle.std.proofs.Common.{◌≡◌, ◌≢◌, ℕ, ◌<◌, ◌≤◌, Bool, true, false, ◌&&◌, List, [], ◌∷◌, length, refl, sym, ap, ◌∙◌, subst, arith, inl, inr}
 use Rattle.std.specs.Prelude.{Some, nat_lt, ◌⊎◌}
 use Rattle.std.specs.declared.option.Option.{Option}
 use Rattle.std.proofs.lemmas.Bool.{ltb-true}
+use Rattle.std.proofs.Math.Bool.{and-false}
 use Rattle.vs_defs.specs.Bytes.{Bytes}
 use Rattle.vs_defs.specs.Store.{Set}
 use Rattle.vs_defs.specs.Links.{Links, another_stands}
@@ -20,10 +20,12 @@ use Rattle.vs_graph.specs.Standing.{AreIds, members_of, name_of, named_links, se
 use Rattle.vs_graph.proofs.Goods.{layers_from}
 use Rattle.vs_graph.proofs.Naming.{another_named}
 use Rattle.vs_graph.proofs.Standing.{are_members}
+use Rattle.vs_graph.proofs.NodeLaws.{some_node}
+use Rattle.vs_graph.proofs.Relinking.{links_there}
 use Rattle.vs_unlink.specs.Unlinked.{bare, IsWithout}
 use Rattle.vs_insert.specs.Rejoined.{HasAnother}
 use Rattle.vs_insert.proofs.Leavings.{ids_left, name_left, members_left}
-use Rattle.vs_unlink.proofs.Remaining.{not_x, some_node}
+use Rattle.vs_unlink.proofs.Remaining.{not_x}
 use Rattle.vs_insert.proofs.Stepping.{nobody_else}
 use Rattle.vs_insert.specs.Turns.{NobodyElse, IsTurn}
 use Rattle.vs_insert.specs.Walking.{degree, alone_at, Walking}
@@ -48,10 +50,6 @@ turn_settled at now new top m dim entry layer y (inl p) z ne h = elim p.why [
   | inr nobody ↦ absurd (nobody z ne h)
 ]
 turn_settled at now new top m dim entry layer y (inr j) z ne h = j.own
-
-and_false : (b : Bool) → (b && false) ≡ false
-and_false true = refl
-and_false false = refl
 
 linked_by : (n : ℕ) (other b : Bool) → nat_lt n 1 ≡ b → 0 < n → (b && other) ≡ false
 linked_by n other true e h = absurd (omega (arith, h, ltb-true n 1 e))
@@ -91,7 +89,7 @@ module _ (at left now new : ℕ → Option Node) (top : Option ℕ) (m dim x ent
   not_alone (inl some) = alone_is ∙ linked_by (length (links_at now layer y)) (another_stands (members_of now dim (without x ids)) layer (name_of now y)) (nat_lt (length (links_at now layer y)) 1) refl some
   not_alone (inr nobody) =
       alone_is ∙ ap (λ b. nat_lt (length (links_at now layer y)) 1 && b) (nobody_else now dim y layer (without x ids) (ids_left at now x m dim ids good are gone) nobody)
-      ∙ and_false (nat_lt (length (links_at now layer y)) 1)
+      ∙ and-false (nat_lt (length (links_at now layer y)) 1)
 
   alone : links_at now layer y ≡ [] → HasAnother now layer y → alone_at old (name_of at x) entry_is (links_in left) (links_in now) (layer, name_of at y) ≡ true
   alone free another =
@@ -114,8 +112,5 @@ none_long : (xs : List ℕ) → length xs ≤ 0 → xs ≡ []
 none_long [] h = refl
 none_long (x ∷ xs) h = absurd (omega (arith, h))
 
-pub links_here : (now : ℕ → Option Node) (layer y : ℕ) (n : Node) → now y ≡ Some n → links_at now layer y ≡ links_of n layer
-links_here now layer y n is = ap (λ o. option_map_or (λ k. links_of k layer) o []) is
-
 pub free_at : (now : ℕ → Option Node) (layer y : ℕ) (n : Node) → now y ≡ Some n → length (links_of n layer) ≤ 0 → links_at now layer y ≡ []
-free_at now layer y n is none = links_here now layer y n is ∙ none_long (links_of n layer) none
+free_at now layer y n is none = links_there now layer y n is ∙ none_long (links_of n layer) none

@@ -1,9 +1,9 @@
 -- How one that a removal left alone is joined again.
-use Rattle.std.specs.Prelude.{◌≡◌, ◌≢◌, ◌<◌, ◌==◌, ℕ, not, ◌&&◌, is_some, List, length, filter, Some}
+use Rattle.std.specs.Prelude.{◌≡◌, ◌≢◌, ◌<◌, ◌==◌, ℕ, not, ◌&&◌, is_some, List, [], length, filter, Some}
 use Rattle.std.specs.declared.option.Option.{Option}
 use Rattle.vs_defs.specs.Removal as rules
 use Rattle.vs_graph.specs.declared.node.Node.{Node}
-use Rattle.vs_graph.specs.Good.{body_at, links_at, layers_at, most_links, StandsAt, AreLinksGood}
+use Rattle.vs_graph.specs.Good.{body_at, links_at, layers_at, most_links, StandsAt, AreLinksGood, IsEntry}
 use Rattle.vs_graph.specs.GoodTable.{KeepsLinked}
 use Rattle.vs_graph.specs.Bodies.{words_at}
 use Rattle.vs_graph.specs.Relinks.{Relinks}
@@ -20,6 +20,15 @@ use Rattle.vs_insert.specs.Height.{IsHighestBelow}
 -- another than the orphan stands at its layer
 abbrev pub HasAnother : (ℕ → Option Node) → ℕ → ℕ → Type 0
 HasAnother at layer y = (z : ℕ) × (z ≢ y) × StandsAt at layer z
+
+-- what an orphan's joining wants: a member was taken out, the links that are left are good, and y, without a link at a layer where another stands, is one of those left
+pub record CanRejoin (at now : ℕ → Option Node) (m dim entry layer y : ℕ) : Type 0 where
+  pub without : (x : ℕ) × IsWithout at now x
+  pub links : AreLinksGood now m dim
+  pub top : IsEntry now (Some entry)
+  pub stands : StandsAt now layer y
+  pub free : links_at now layer y ≡ []
+  pub another : HasAnother now layer y
 
 -- what was found, without those that are gone and without y
 abbrev pub others_of : (ℕ → Option Node) → ℕ → List Key → List Key

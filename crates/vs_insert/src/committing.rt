@@ -1,5 +1,6 @@
 //! A draft put into a graph that may have changed since: the member gets the draft's lists, by a bounded number of reads and no search.
 ghost use Rattle.std.specs.Prelude.{◌≡◌, ◌≢◌, ◌<◌, ◌≤◌, ◌+◌, ◌^◌, ℕ, List as Items, None, OnOk, OnErr, IfOk, IfSome, length, option_map};
+ghost use Rattle.vs_defs.specs.Limits.{max_level};
 ghost use Rattle.vs_defs.specs.Words.{FitsDimension};
 ghost use Rattle.vs_defs.specs.Counts.{commit_reads};
 ghost use Rattle.vs_graph.specs.Edits.{overwritten};
@@ -25,7 +26,7 @@ fn addition<N: Nodes, L: Ledger>(
 ) -> Result<(Edit, Option<u32>), NoMemory>
     requires free { N.at graph.now.nodes id ≡ None }
     requires small { id < 2 ^ 20 }
-    requires level { draft.level ≤ 15 }
+    requires level { draft.level ≤ max_level }
     requires name { (q : ℕ) → IfSome (N.at graph.now.nodes q) (λ other. other.body.name ≢ draft.body.name) }
     requires fits { FitsDimension graph.now.dim draft.body.bits }
     requires chosen { AreDrafted (N.at graph.now.nodes) graph.now.m draft.level draft.chosen }
@@ -79,7 +80,7 @@ pub fn commit<N: Nodes, L: Ledger>(
 ) -> Result<(), NoMemory>
     requires free { N.at graph.old.nodes id ≡ None }
     requires small { id < 2 ^ 20 }
-    requires level { draft.level ≤ 15 }
+    requires level { draft.level ≤ max_level }
     requires name { (q : ℕ) → IfSome (N.at graph.old.nodes q) (λ other. other.body.name ≢ draft.body.name) }
     requires fits { FitsDimension graph.old.dim draft.body.bits }
     requires chosen { AreDrafted (N.at graph.old.nodes) graph.old.m draft.level draft.chosen }

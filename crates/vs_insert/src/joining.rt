@@ -1,7 +1,8 @@
 //! A new member linked at its layers, from layer 0 up.
 ghost use Rattle.std.specs.Prelude.{◌≡◌, ◌≢◌, ◌<◌, ◌≤◌, ◌+◌, ◌*◌, ℕ, [], IfOk, OnOk, All, length};
+ghost use Rattle.vs_defs.specs.Limits.{min_m, max_level};
 ghost use Rattle.vs_graph.specs.Edits.{overwritten};
-ghost use Rattle.vs_graph.specs.Good.{links_at, layers_at, AreLinksGood, IsEntry, StandsAt};
+ghost use Rattle.vs_graph.specs.Good.{links_at, layers_at, AreLinksGood, IsEntry, StandsAt, HasGoodLinksFor};
 ghost use Rattle.vs_link.specs.Linked.{IsFallback};
 ghost use Rattle.vs_insert.specs.Drafts.{ids_of, chosen_at, AreChoices};
 ghost use Rattle.vs_insert.specs.Joined.{layers_shared, IsSharedBelow, IsLayerJoined, IsJoinedFrom, reads_of};
@@ -32,7 +33,7 @@ pub(crate) fn shared_layers<N: Nodes, L: Ledger>(
     level: u8,
     reads: &mut Steps<L>,
 ) -> u8
-    requires low { level ≤ 15 }
+    requires low { level ≤ max_level }
     requires top { IsEntry (N.at nodes.now) entry }
     ensures shared { result ≡ layers_shared (N.at nodes.now) entry level }
     ensures told { reads.new ≤ reads.old + level }
@@ -59,8 +60,8 @@ fn join_layer<N: Nodes, L: Ledger>(
     m: u16,
     reads: &mut Steps<L>,
 ) -> Result<(), NoMemory>
-    requires good { (dim : ℕ) × (dim ≤ 32768) × AreLinksGood (overwritten edit.old (N.at base.now)) m dim }
-    requires low { 4 ≤ m }
+    requires good { HasGoodLinksFor (overwritten edit.old (N.at base.now)) m }
+    requires low { min_m ≤ m }
     requires stands { StandsAt (overwritten edit.old (N.at base.now)) layer x }
     requires free { links_at (overwritten edit.old (N.at base.now)) layer x ≡ [] }
     requires chosen { AreChoices (overwritten edit.old (N.at base.now)) m layer chosen.now }
@@ -96,8 +97,8 @@ pub(crate) fn join_layers<N: Nodes, L: Ledger>(
     m: u16,
     reads: &mut Steps<L>,
 ) -> Result<(), NoMemory>
-    requires good { (dim : ℕ) × (dim ≤ 32768) × AreLinksGood (overwritten edit.old (N.at base.now)) m dim }
-    requires low { 4 ≤ m }
+    requires good { HasGoodLinksFor (overwritten edit.old (N.at base.now)) m }
+    requires low { min_m ≤ m }
     requires layers { length chosen.now ≡ layers_at (overwritten edit.old (N.at base.now)) x }
     requires free { (layer : ℕ) → links_at (overwritten edit.old (N.at base.now)) layer x ≡ [] }
     requires chosen { (layer : ℕ) → AreChoices (overwritten edit.old (N.at base.now)) m layer (chosen_at chosen.now layer) }

@@ -1,5 +1,6 @@
 //! The public call that makes a draft over a graph.
 ghost use Rattle.std.specs.Prelude.{◌≡◌, ◌<◌, ◌≤◌, ◌+◌, ℕ, List as Items, IfOk, length};
+ghost use Rattle.vs_defs.specs.Limits.{max_level};
 ghost use Rattle.vs_defs.specs.Words.{FitsDimension, bits_of_words};
 ghost use Rattle.vs_defs.specs.Insertion.{IsChosen};
 ghost use Rattle.vs_graph.specs.Standing.{AreIds, set_of};
@@ -31,7 +32,7 @@ fn chosen_lists<N: Nodes, F: Testing + Drop, L: Ledger>(
     reads: &mut Steps<L>,
 ) -> Result<Vec<List<Chosen>>, NoMemory>
     requires fits { FitsDimension graph.now.dim query.now }
-    requires low { level ≤ 15 }
+    requires low { level ≤ max_level }
     requires wide { 0 < ef }
     requires single { IsProp (F.ready test) }
     requires callable { F.ready test }
@@ -76,7 +77,7 @@ pub fn prepare<N: Nodes, L: Ledger>(
     reads: &mut Steps<L>,
 ) -> Result<Draft, NoMemory>
     requires fits { FitsDimension graph.now.dim body.bits }
-    requires low { level ≤ 15 }
+    requires low { level ≤ max_level }
     requires wide { 0 < ef }
     ensures cut { IfOk result (λ draft. draft.cut ≡ cut) }
     ensures level { IfOk result (λ draft. draft.level ≡ level) }

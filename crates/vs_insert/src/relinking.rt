@@ -1,13 +1,13 @@
 //! One member that a removal left without a link at a layer, joined to the choice of a beam in the graph before the removal.
-ghost use Rattle.std.specs.Prelude.{◌≡◌, ◌≢◌, ℕ, [], Some, IsSome, IfOk, OnOk};
+ghost use Rattle.std.specs.Prelude.{◌≡◌, ◌≢◌, ℕ, Some, IsSome, IfOk, OnOk};
 ghost use mathlib.Core.HProp.{IsProp-prop};
 ghost use Rattle.vs_rank.specs.Tests.{Answers};
 ghost use Rattle.vs_graph.specs.Edits.{overwritten};
-ghost use Rattle.vs_graph.specs.Good.{links_at, IsEntry, StandsAt, AreLinksGood};
+ghost use Rattle.vs_graph.specs.Good.{links_at, IsEntry};
 ghost use Rattle.vs_graph.specs.GoodTable.{KeepsLinked};
 ghost use Rattle.vs_insert.specs.Choosing.{everyone};
 ghost use Rattle.vs_unlink.specs.Unlinked.{bare, IsWithout};
-ghost use Rattle.vs_insert.specs.Rejoined.{HasAnother, IsStart, IsOrphansChoice, IsRejoined, RejoinsByNames, others_of};
+ghost use Rattle.vs_insert.specs.Rejoined.{CanRejoin, IsStart, IsOrphansChoice, IsRejoined, RejoinsByNames, others_of};
 
 use crate::highest::highest_but;
 use std::alloc::Global;
@@ -73,12 +73,8 @@ fn choice_for<N: Nodes, F: Testing, L: Ledger>(
     slot: &mut Slot,
     reads: &mut Steps<L>,
 ) -> Result<List<u32>, NoMemory>
-    requires without { (x : ℕ) × IsWithout (N.at graph.now.nodes) (overwritten edit.now (N.at graph.now.nodes)) x }
-    requires links { AreLinksGood (overwritten edit.now (N.at graph.now.nodes)) graph.now.m graph.now.dim }
+    requires can { CanRejoin (N.at graph.now.nodes) (overwritten edit.now (N.at graph.now.nodes)) graph.now.m graph.now.dim entry orphan.layer orphan.id }
     requires wide { ef ≡ 200 }
-    requires top { IsEntry (overwritten edit.now (N.at graph.now.nodes)) (Some entry) }
-    requires stands { StandsAt (overwritten edit.now (N.at graph.now.nodes)) orphan.layer orphan.id }
-    requires another { HasAnother (overwritten edit.now (N.at graph.now.nodes)) orphan.layer orphan.id }
     requires everyone { Answers (F.gives wanted.now.test) everyone }
     ensures { IfOk result (λ chosen. IsOrphansChoice (N.at graph.now.nodes) (overwritten edit.now (N.at graph.now.nodes)) graph.now.m entry orphan.layer orphan.id chosen) }
 {
@@ -121,13 +117,8 @@ fn rejoin<N: Nodes, F: Testing + Drop, L: Ledger>(
     slot: &mut Slot,
     reads: &mut Steps<L>,
 ) -> Result<(), NoMemory>
-    requires without { (x : ℕ) × IsWithout (N.at graph.now.nodes) (overwritten edit.old (N.at graph.now.nodes)) x }
-    requires links { AreLinksGood (overwritten edit.old (N.at graph.now.nodes)) graph.now.m graph.now.dim }
+    requires can { CanRejoin (N.at graph.now.nodes) (overwritten edit.old (N.at graph.now.nodes)) graph.now.m graph.now.dim entry orphan.layer orphan.id }
     requires wide { ef ≡ 200 }
-    requires top { IsEntry (overwritten edit.old (N.at graph.now.nodes)) (Some entry) }
-    requires stands { StandsAt (overwritten edit.old (N.at graph.now.nodes)) orphan.layer orphan.id }
-    requires free { links_at (overwritten edit.old (N.at graph.now.nodes)) orphan.layer orphan.id ≡ [] }
-    requires another { HasAnother (overwritten edit.old (N.at graph.now.nodes)) orphan.layer orphan.id }
     requires single { IsProp (F.ready test) }
     requires callable { F.ready test }
     requires everyone { Answers (F.gives test) everyone }
@@ -164,13 +155,8 @@ pub fn relink<N: Nodes, L: Ledger>(
     slot: &mut Slot,
     reads: &mut Steps<L>,
 ) -> Result<(), NoMemory>
-    requires without { (x : ℕ) × IsWithout (N.at graph.now.nodes) (overwritten edit.old (N.at graph.now.nodes)) x }
-    requires links { AreLinksGood (overwritten edit.old (N.at graph.now.nodes)) graph.now.m graph.now.dim }
+    requires can { CanRejoin (N.at graph.now.nodes) (overwritten edit.old (N.at graph.now.nodes)) graph.now.m graph.now.dim entry orphan.layer orphan.id }
     requires wide { ef ≡ 200 }
-    requires top { IsEntry (overwritten edit.old (N.at graph.now.nodes)) (Some entry) }
-    requires stands { StandsAt (overwritten edit.old (N.at graph.now.nodes)) orphan.layer orphan.id }
-    requires free { links_at (overwritten edit.old (N.at graph.now.nodes)) orphan.layer orphan.id ≡ [] }
-    requires another { HasAnother (overwritten edit.old (N.at graph.now.nodes)) orphan.layer orphan.id }
     ensures joined { OnOk result (IsRejoined (N.at graph.now.nodes) (overwritten edit.old (N.at graph.now.nodes)) (overwritten edit.new (N.at graph.now.nodes)) graph.now.m graph.now.dim entry orphan.layer orphan.id) }
     ensures rejoins { OnOk result (RejoinsByNames (N.at graph.now.nodes) (overwritten edit.old (N.at graph.now.nodes)) (overwritten edit.new (N.at graph.now.nodes)) graph.now.entry graph.now.m graph.now.dim entry orphan.layer orphan.id) }
     ensures without { OnOk result ((x : ℕ) → IsWithout (N.at graph.now.nodes) (overwritten edit.old (N.at graph.now.nodes)) x → IsWithout (N.at graph.now.nodes) (overwritten edit.new (N.at graph.now.nodes)) x) }

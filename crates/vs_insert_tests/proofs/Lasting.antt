@@ -6,24 +6,12 @@ use Rattle.std.specs.declared.option.Option.{Option}
 use Rattle.vs_graph.specs.declared.node.Node.{Node}
 use Rattle.vs_graph.specs.declared.node.Attr.{Attr}
 use Rattle.vs_graph.specs.Good.{body_at, StandsAt}
-use Rattle.vs_unlink.specs.Unlinked.{bare}
+use Rattle.vs_graph.proofs.NodeLaws.{none_stands}
+use Rattle.vs_unlink.proofs.Bare.{bare_stands, stands_bare, body_bare}
 use Rattle.vs_insert.specs.declared.draft.Chosen.{Chosen}
 use Rattle.vs_insert.specs.declared.draft.Draft.{Draft}
 use Rattle.vs_insert.specs.Drafts.{chosen_at, AreChoices}
 use Rattle.vs_insert.specs.Added.{AreDrafted, IsAdded}
-use Rattle.vs_insert.proofs.Adding.{none_stands}
-
-body_bare : (o : Option Node) → option_map (λ node. node.body) (bare o) ≡ option_map (λ node. node.body) o
-body_bare None = refl
-body_bare (Some node) = refl
-
-bare_stands : (layer : ℕ) (o : Option Node) → IsSomeAnd o (λ node. layer ≤ node.level) → IsSomeAnd (bare o) (λ node. layer ≤ node.level)
-bare_stands layer None h = h
-bare_stands layer (Some node) h = h
-
-stands_bare : (layer : ℕ) (o : Option Node) → IsSomeAnd (bare o) (λ node. layer ≤ node.level) → IsSomeAnd o (λ node. layer ≤ node.level)
-stands_bare layer None h = h
-stands_bare layer (Some node) h = h
 
 -- an id that is no less than the limit is free
 none_by : (o : Option Node) (n : ℕ) → (IsSome o → n < n) → o ≡ None

@@ -5,7 +5,7 @@ use Rattle.std.specs.List.{list_any, IsDistinct}
 use Rattle.std.specs.Option.{option_map_or}
 use Rattle.std.specs.declared.option.Option.{Option}
 use Rattle.std.proofs.lemmas.Grind.{common_steps}
-use Rattle.std.proofs.lemmas.Bool.{both_ways, and_parts, ltb-true}
+use Rattle.std.proofs.lemmas.Bool.{both_ways, and_parts, ltb-true, lt-ltb, le-ltb}
 use Rattle.std.proofs.lemmas.List.{length-map, map-append}
 use Rattle.std.proofs.lemmas.Map.Keys.{IsDistinct-head, IsDistinct-tail, IsDistinct-cons}
 use Rattle.std.proofs.lemmas.List.Elements.{All-from_recursion, recursion_from_All}
@@ -32,12 +32,6 @@ words_long at id alike h = by_node (at id) h (alike.words id) where
 
 -- ---- one step
 
-pub lt_true : (a b : ℕ) → a < b → nat_lt a b ≡ true
-lt_true a b h = grind (arith, common_steps)
-
-pub lt_false : (a b : ℕ) → b ≤ a → nat_lt a b ≡ false
-lt_false a b h = grind (arith, common_steps)
-
 and_false : (b : Bool) → (b && not true) ≡ false
 and_false true = refl
 and_false false = refl
@@ -56,7 +50,7 @@ step_by bodies m chosen keys i d h b e =
 pub step_full : (bodies : Bodies) (m : ℕ) (chosen : List ℕ) (keys : List Key) (i : ℕ) (d : Key) → i < length keys → m ≤ length chosen
     → selected_behind bodies m chosen (drop i keys) ≡ selected_behind bodies m chosen (drop (i + 1) keys)
 step_full bodies m chosen keys i d h full =
-    step_by bodies m chosen keys i d h false (ap (λ b. b && not (is_shadowed bodies chosen (get_or keys i d))) (lt_false (length chosen) m full))
+    step_by bodies m chosen keys i d h false (ap (λ b. b && not (is_shadowed bodies chosen (get_or keys i d))) (le-ltb (length chosen) m full))
 
 -- one that is shadowed
 pub step_shadowed : (bodies : Bodies) (m : ℕ) (chosen : List ℕ) (keys : List Key) (i : ℕ) (d : Key) → i < length keys → is_shadowed bodies chosen (get_or keys i d) ≡ true
@@ -68,7 +62,7 @@ step_shadowed bodies m chosen keys i d h dark =
 pub step_chosen : (bodies : Bodies) (m : ℕ) (chosen : List ℕ) (keys : List Key) (i : ℕ) (d : Key) → i < length keys → length chosen < m → is_shadowed bodies chosen (get_or keys i d) ≡ false
     → selected_behind bodies m chosen (drop i keys) ≡ (get_or keys i d).id ∷ selected_behind bodies m (chosen ++ (get_or keys i d).id ∷ []) (drop (i + 1) keys)
 step_chosen bodies m chosen keys i d h room light =
-    step_by bodies m chosen keys i d h true (ap (λ b. b && not (is_shadowed bodies chosen (get_or keys i d))) (lt_true (length chosen) m room) ∙ ap not light)
+    step_by bodies m chosen keys i d h true (ap (λ b. b && not (is_shadowed bodies chosen (get_or keys i d))) (lt-ltb (length chosen) m room) ∙ ap not light)
 
 abbrev pub a_key : Key
 a_key = record { dist = 0; id = 0 }

@@ -5,8 +5,7 @@ use Rattle.std.specs.List.{list_any}
 use Rattle.std.specs.Cmp.{IsTotalOrder}
 use Rattle.std.specs.Ordering.{is_gt, is_lt, nat_cmp, ordering_then}
 use Rattle.std.specs.declared.option.Option.{Option}
-use Rattle.std.specs.declared.cmp.Ordering.{Ordering}
-use Rattle.std.specs.declared.cmp.Ordering.TheVariants.{Less, Equal, Greater}
+use Rattle.std.specs.declared.cmp.Ordering.TheVariants.{Less, Equal}
 use Rattle.std.proofs.lemmas.Cmp.{upto, tied_itself, then_total, on_total, nat_cmp_total, nat_list_cmp_total}
 use Rattle.std.proofs.lemmas.Map.Lookups.{exact_bytes}
 use Rattle.std.proofs.lemmas.Option.{same_Some}
@@ -22,6 +21,7 @@ use Rattle.vs_graph.specs.GoodTable.{IsGoodTable}
 use Rattle.vs_graph.specs.Named.{is_live, AreMembers}
 use Rattle.vs_graph.proofs.Sorts.{In, in_map, from_map, in_filter, from_filter, sorted_is, from_sort, in_sort, last_is, find_is, find_none, less_or_same, gt_back, lt_is_gt, in_from_test, test_from_in}
 use Rattle.vs_graph.proofs.Naming.{Stands, none_pass, neighbours_are, live_one, degree_same}
+use Rattle.vs_graph.proofs.CommonLaws.{second_equal}
 use Rattle.vs_link.specs.Picks.{later, earlier, farthest, nearest}
 use Rattle.vs_link.specs.Linked.{has_room}
 use Rattle.vs_link.proofs.Picked.{farthest_in, nearest_in, farthest_some, nearest_some, filter_in}
@@ -29,14 +29,9 @@ use Rattle.vs_link.proofs.Picked.{farthest_in, nearest_in, farthest_some, neares
 pub near_total : (bodies : Bodies) (y : ℕ) → IsTotalOrder (nearness bodies y)
 near_total bodies y = then_total (on_total (gap bodies y) nat_cmp_total) (on_total (name_at bodies) nat_list_cmp_total)
 
-then_equal : (o p : Ordering) → ordering_then o p ≡ Equal → p ≡ Equal
-then_equal Equal p h = h
-then_equal Less p h = absurd (both_ways (is_lt Less) (ap is_lt h) refl)
-then_equal Greater p h = absurd (both_ways (is_gt Greater) (ap is_gt h) refl)
-
 -- members that tie have one name
 pub tied_names : (bodies : Bodies) (y a b : ℕ) → nearness bodies y a b ≡ Equal → name_at bodies a ≡ name_at bodies b
-tied_names bodies y a b h = exact_bytes (name_at bodies a) (name_at bodies b) (then_equal (nat_cmp (gap bodies y a) (gap bodies y b)) _ h)
+tied_names bodies y a b h = exact_bytes (name_at bodies a) (name_at bodies b) (second_equal (nat_cmp (gap bodies y a) (gap bodies y b)) _ h)
 
 module _ (bodies : Bodies) (y : ℕ) where
   gt_itself : (b w : ℕ) → ◌≡◌ {A = Option ℕ} (Some b) (Some w) → is_gt (nearness bodies y b w) ≡ false

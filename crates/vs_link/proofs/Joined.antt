@@ -6,7 +6,7 @@ use Rattle.std.specs.declared.option.Option.{Option}
 use Rattle.std.proofs.Math.Seq.{take-suc, take-length}
 use Rattle.std.proofs.lemmas.List.{map-append}
 use Rattle.std.proofs.lemmas.List.Sums.{fold-append}
-use Rattle.std.proofs.lemmas.Bool.{eqb-true, eqb-false, both_ways, lt-ltb, le-ltb}
+use Rattle.std.proofs.lemmas.Bool.{eqb-true, eqb-false, both_ways, lt-ltb, le-ltb, false_from_ne_true}
 use Rattle.vs_defs.specs.Store.{Member}
 use Rattle.vs_defs.specs.Links.{Links, neighbours, capacity, join, another_stands, by_nearness_to}
 use Rattle.vs_defs.specs.Links as defs
@@ -15,7 +15,6 @@ use Rattle.vs_graph.specs.Bodies.{Bodies, name_at, gap}
 use Rattle.vs_graph.specs.Table.{Table, is_in, joined}
 use Rattle.vs_graph.specs.GoodTable.{IsGoodTable}
 use Rattle.vs_graph.specs.Named.{is_live, AreMembers}
-use Rattle.vs_graph.proofs.Lists.{not_true}
 use Rattle.vs_graph.proofs.Naming.{Stands, join_named, displace_named, degree_same, another_named}
 use Rattle.vs_link.specs.Picks.{farthest, nearest}
 use Rattle.vs_link.specs.Linked.{has_room, displaced_by, giving_way, accepted, forced_near, forced_at, forced, target, offered, linked, AreChosen}
@@ -97,7 +96,7 @@ module _ (bodies : Bodies) (layers : ℕ → ℕ) (ids : List ℕ) (members : Li
         let was = offered_all bodies layers layer most x t chosen good free stands chosen_are i (omega arith) in
         let now = offered bodies most t x (take i chosen) in
         let y_stands : layer < layers y = (chosen_are.stand i 0 less).0 in
-        let apart : is_in now x y ≡ false = not_true (is_in now x y) (λ k. both_ways (list_any (nat_eq y) (take i chosen)) (not_before bodies layers layer most x t chosen good free stands chosen_are i less) (was.taken y k)) in
+        let apart : is_in now x y ≡ false = false_from_ne_true (is_in now x y) (λ k. both_ways (list_any (nat_eq y) (take i chosen)) (not_before bodies layers layer most x t chosen good free stands chosen_are i less) (was.taken y k)) in
         let step : Is (accepted bodies most x now y) (rules.accepted m members (name_at bodies x) layer (fold (rules.accepted m members (name_at bodies x) layer) links (map (name_at bodies) (take i chosen))) (name_at bodies y)) =
         accept_named now (fold (rules.accepted m members (name_at bodies x) layer) links (map (name_at bodies) (take i chosen))) was.good (offered_named i (omega arith)) x y (are.live layer x stands) (are.live layer y y_stands)
         (λ e. (chosen_are.stand i 0 less).1 (sym e)) apart in

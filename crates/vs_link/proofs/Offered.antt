@@ -3,7 +3,7 @@ use Rattle.std.proofs.Common.{◌≡◌, ◌≢◌, ℕ, zero, suc, ◌<◌, ◌
 use Rattle.std.specs.Prelude.{nat_eq, filter, Some, None, IsSome, is_some, IfSome}
 use Rattle.std.specs.List.{list_any}
 use Rattle.std.specs.declared.option.Option.{Option}
-use Rattle.std.proofs.lemmas.Bool.{eqb-true, both_ways, or_left, or_right, ltb-true, ltb-false}
+use Rattle.std.proofs.lemmas.Bool.{eqb-true, both_ways, or_left, or_right, ltb-true, ltb-false, false_from_ne_true}
 use Rattle.std.proofs.lemmas.List.{get_or-take, length-take, get_or_default}
 use Rattle.std.proofs.lemmas.List.Sums.{fold-append}
 use Rattle.std.proofs.Math.Seq.{take-suc, take-length}
@@ -33,10 +33,6 @@ or_more false q r f h = or_right q r h
 kept_then : (start t u : Table) → KeepsLinked start t → KeepsLinked t u → KeepsLinked start u
 kept_then start t u f g a h = g a (f a h)
 
-pub not_true : (b : Bool) → (b ≡ true → ⊥) → b ≡ false
-not_true true f = absurd (f refl)
-not_true false f = refl
-
 module _ (bodies : Bodies) (layers : ℕ → ℕ) (layer most x : ℕ) where
   -- x took y as its last link
   taken_last : (start t u : Table) (done : List ℕ) (y : ℕ) → IsOffered layers layer most x start t done → IsGoodTable layers layer most u → KeepsLinked t u → u x ≡ t x ++ y ∷ [] → IsOffered layers layer most x start u (done ++ y ∷ [])
@@ -59,12 +55,12 @@ module _ (bodies : Bodies) (layers : ℕ → ℕ) (layer most x : ℕ) where
   offered_by : (start t : Table) (done : List ℕ) (y : ℕ) → IsOffered layers layer most x start t done → x ≢ y → layer < layers x → layer < layers y → list_any (nat_eq y) done ≡ false → length done < most
       → (b : Bool) → has_room most t y ≡ b → (o : Option ℕ) → giving_way bodies t x y (farthest bodies y (t y)) ≡ o → IsOffered layers layer most x start (cond b (joined t x y) (displaced_by t x y o)) (done ++ y ∷ [])
   offered_by start t done y was ne x_stands y_stands new few true room o way =
-      let apart : is_in t x y ≡ false = not_true (is_in t x y) (λ h. both_ways (list_any (nat_eq y) done) new (was.taken y h)) in
+      let apart : is_in t x y ≡ false = false_from_ne_true (is_in t x y) (λ h. both_ways (list_any (nat_eq y) done) new (was.taken y h)) in
       let x_room : length (t x) < most = omega (arith, was.few) in
       taken_last start t (joined t x y) done y was (joined_good layers layer most t x y was.good ne apart x_room (ltb-true (length (t y)) most room) x_stands y_stands) (joined_linked t x y) (joined_own t x y ne)
   offered_by start t done y was ne x_stands y_stands new few false full None way = refused start t done y was
   offered_by start t done y was ne x_stands y_stands new few false full (Some w) way =
-      let apart : is_in t x y ≡ false = not_true (is_in t x y) (λ h. both_ways (list_any (nat_eq y) done) new (was.taken y h)) in
+      let apart : is_in t x y ≡ false = false_from_ne_true (is_in t x y) (λ h. both_ways (list_any (nat_eq y) done) new (was.taken y h)) in
       let x_room : length (t x) < most = omega (arith, was.few) in
       let at_y : is_in t y w ≡ true = yielding_in bodies t x y w way in
       let xw : x ≢ w = neighbour_other layers layer most t x y w was.good apart at_y in
@@ -133,7 +129,7 @@ module _ (bodies : Bodies) (layers : ℕ → ℕ) (layer most x : ℕ) where
         let at_y : is_in t y w ≡ true = farthest_in bodies y (t y) w e in
         let xw : x ≢ w = other_than_x w at_y in
         let wy : w ≢ y = λ k. both_ways (is_in t y y) (good.apart y) (subst (λ z. is_in t y z ≡ true) k at_y) in
-        let w_full : has_room most t w ≡ false = not_true (has_room most t w)
+        let w_full : has_room most t w ≡ false = false_from_ne_true (has_room most t w)
         (λ h. both_ways (is_some (nearest bodies x (filter (has_room most t) (t y)))) (ap is_some none) (nearest_some bodies x (filter (has_room most t) (t y)) (in_filter (has_room most t) w (t y) at_y h))) in
         record {
           good = displaced_good layers layer most t x y w good ne wy xw (ap (list_any (nat_eq y)) free) at_y (omega (arith, ap length free)) x_stands y_stands;

@@ -2,12 +2,11 @@
 use Rattle.std.proofs.Common.{◌≡◌, ◌≢◌, ℕ, ◌<◌, ◌≤◌, Bool, true, false, cond, eqb, ◌&&◌, ◌||◌, List, [], ◌∷◌, ◌++◌, length, get_or, refl, sym, ap, ◌∙◌, subst, arith, inl, inr, ◌⊎◌}
 use Rattle.std.specs.Prelude.{nat_eq, nat_lt, filter, fold, Some, None, IsSome}
 use Rattle.std.specs.List.{list_any}
-use Rattle.std.specs.Option.{option_map_or}
 use Rattle.std.specs.Ordering.{is_gt, is_lt}
 use Rattle.std.specs.declared.option.Option.{Option}
 use Rattle.std.proofs.lemmas.Bool.{eqb-true, eq-eqb, ne_eqb, both_ways, or_left, or_right, or_cases, and_parts, ltb-true, le-ltb, cond-false}
 use Rattle.std.proofs.lemmas.Option.{cond_some, same_Some, none-some}
-use Rattle.std.proofs.lemmas.List.Folds.{list_any_at}
+use Rattle.std.proofs.Math.Bool.{and-false}
 use Rattle.vs_graph.specs.declared.node.Node.{Node}
 use Rattle.vs_graph.specs.Bodies.{Bodies, gap, nearness}
 use Rattle.vs_link.specs.Picks.{later, earlier, farthest, nearest}
@@ -16,6 +15,8 @@ use Rattle.vs_graph.specs.GoodTable.{IsGoodTable}
 use Rattle.vs_graph.specs.Good.{layers_at}
 use Rattle.vs_link.specs.Linked.{has_room, displaced_by, giving_way, accepted, forced_near, forced_at}
 use Rattle.vs_graph.proofs.Lists.{length_push}
+use Rattle.vs_graph.proofs.NodeLaws.{live_from_layers}
+use Rattle.vs_graph.proofs.CommonLaws.{in_at}
 
 abbrev pub Picks : (Option ℕ → ℕ → Option ℕ) → Type 0
 Picks f = (b : Option ℕ) (z : ℕ) → (f b z ≡ Some z) ⊎ (f b z ≡ b)
@@ -100,17 +101,7 @@ pub in_filter : (p : ℕ → Bool) (z : ℕ) (xs : List ℕ) → list_any (nat_e
 in_filter p z [] h pz = absurd (both_ways false refl h)
 in_filter p z (x ∷ xs) h pz = in_filter_step p z x (filter p xs) (list_any (nat_eq z) xs) (p x) refl pz (λ k. in_filter p z xs k pz) h
 
-pub in_at : (xs : List ℕ) (k d : ℕ) → k < length xs → list_any (nat_eq (get_or xs k d)) xs ≡ true
-in_at xs k d h = list_any_at (nat_eq (get_or xs k d)) xs k d h (eq-eqb (get_or xs k d) (get_or xs k d) refl)
-
 -- ---- who stands and who is live
-
-layers_live : (layer : ℕ) (o : Option Node) → layer < option_map_or (λ node. length node.links) o 0 → IsSome o
-layers_live layer None h = absurd (omega arith)
-layers_live layer (Some node) h = refl
-
-pub live_from_layers : (at : ℕ → Option Node) (layer id : ℕ) → layer < layers_at at id → IsSome (at id)
-live_from_layers at layer id h = layers_live layer (at id) h
 
 pub neighbours_live : (at : ℕ → Option Node) (layer most : ℕ) (t : Table) (y : ℕ) (ids : List ℕ) → IsGoodTable (layers_at at) layer most t → ids ≡ t y → (k d : ℕ) → k < length ids → IsSome (at (get_or ids k d))
 neighbours_live at layer most t y ids good e k d h =
@@ -138,10 +129,6 @@ forced_to_roomy bodies most t x y z full h =
 pub neighbour_other : (layers : ℕ → ℕ) (layer most : ℕ) (t : Table) (x y w : ℕ) → IsGoodTable layers layer most t → is_in t x y ≡ false → is_in t y w ≡ true → x ≢ w
 neighbour_other layers layer most t x y w good apart h e = both_ways (is_in t y w) (ap (is_in t y) (sym e) ∙ sym (good.back x y) ∙ apart) h
 
-and_no : (p : Bool) → (p && false) ≡ false
-and_no true = refl
-and_no false = refl
-
 -- a list with one more isn't empty
 pub now_linked : (l m : List ℕ) (y : ℕ) (p : Bool) → l ≡ m ++ y ∷ [] → eqb (length l) 0 ≡ (p && false)
-now_linked l m y p e = ne_eqb (length l) 0 (λ z. absurd (omega (arith, ap length e, length_push m y))) ∙ sym (and_no p)
+now_linked l m y p e = ne_eqb (length l) 0 (λ z. absurd (omega (arith, ap length e, length_push m y))) ∙ sym (and-false p)

@@ -4,7 +4,7 @@ use Rattle.std.specs.Prelude.{Some}
 use Rattle.std.specs.List.{list_any}
 use Rattle.std.specs.declared.option.Option.{Option}
 use Rattle.std.proofs.lemmas.List.Sums.{fold_more}
-use Rattle.std.proofs.lemmas.Bool.{both_ways, cond-true}
+use Rattle.std.proofs.lemmas.Bool.{both_ways, cond-true, false_from_ne_true}
 use Rattle.vs_graph.specs.declared.node.Node.{Node}
 use Rattle.vs_graph.specs.Good.{links_at, body_at, layers_at}
 use Rattle.vs_graph.specs.Table.{Table, is_in}
@@ -13,14 +13,10 @@ use Rattle.vs_graph.specs.Relinks.{Relinks}
 use Rattle.vs_link.specs.Linked.{accepted, forced_at, forced, target, offered, linked, AreChosen}
 use Rattle.vs_graph.proofs.Relinking.{relinks_then, same_bodies, same_layers}
 use Rattle.vs_link.proofs.Offered.{offered_all, not_before}
-use Rattle.vs_graph.proofs.Lists.{not_true}
 
 -- a table that is good at the start's layers is good at the layers now
 pub good_now : (at now : ℕ → Option Node) (layer most : ℕ) (t : Table) → Relinks at now layer t → IsGoodTable (layers_at at) layer most t → IsGoodTable (layers_at now) layer most (links_at now layer)
 good_now at now layer most t r good = subst (λ ls. IsGoodTable ls layer most (links_at now layer)) (sym (same_layers at now layer t r)) (subst (IsGoodTable (layers_at at) layer most) (sym r.links) good)
-
-pub stands_now : (at now : ℕ → Option Node) (layer : ℕ) (t : Table) (y : ℕ) → Relinks at now layer t → layer < layers_at at y → layer < layers_at now y
-stands_now at now layer t y r h = subst (λ ls. layer < ls y) (sym (same_layers at now layer t r)) h
 
 module _ (at now : ℕ → Option Node) (layer most x : ℕ) (chosen : List ℕ) (good : IsGoodTable (layers_at at) layer most (links_at at layer)) (free : links_at at layer x ≡ []) (x_stands : layer < layers_at at x)
     (are : AreChosen (layers_at at) layer most x chosen) (i : ℕ) (r : Relinks at now layer (offered (body_at at) most (links_at at layer) x (take i chosen))) where
@@ -31,7 +27,7 @@ module _ (at now : ℕ → Option Node) (layer most x : ℕ) (chosen : List ℕ)
   apart_turn h =
       let was = offered_all (body_at at) (layers_at at) layer most x (links_at at layer) chosen good free x_stands are i (omega arith) in
       ap (λ u. is_in u x (get_or chosen i 0)) r.links
-      ∙ not_true (is_in (offered (body_at at) most (links_at at layer) x (take i chosen)) x (get_or chosen i 0))
+      ∙ false_from_ne_true (is_in (offered (body_at at) most (links_at at layer) x (take i chosen)) x (get_or chosen i 0))
       (λ k. both_ways (list_any (eqb (get_or chosen i 0)) (take i chosen)) (not_before (body_at at) (layers_at at) layer most x (links_at at layer) chosen good free x_stands are i h) (was.taken (get_or chosen i 0) k))
 
 pub accepted_turn : (at now new : ℕ → Option Node) (layer most x : ℕ) (t : Table) (chosen : List ℕ) (i : ℕ) → i < length chosen → Relinks at now layer (offered (body_at at) most t x (take i chosen))

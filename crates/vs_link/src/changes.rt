@@ -3,7 +3,7 @@ ghost use Rattle.std.specs.Prelude.{◌≡◌, ◌<◌, ◌+◌, ◌≤◌, Some
 ghost use Rattle.vs_graph.specs.Edits.{overwritten};
 ghost use Rattle.vs_graph.specs.Good.{links_at, layers_at};
 ghost use Rattle.vs_graph.specs.Table.{joined, displaced};
-ghost use Rattle.vs_graph.specs.Relinks.{Relinks};
+ghost use Rattle.vs_graph.specs.Relinks.{RelinksBy};
 
 use std::alloc::Global;
 use std::sync::ledger::Ledger;
@@ -24,7 +24,7 @@ pub(crate) fn join<N: Nodes, L: Ledger>(
     requires there { overwritten edit.old (N.at base.now) y ≡ Some node }
     requires y_stands { layer < layers_at (overwritten edit.old (N.at base.now)) y }
     requires x_stands { layer < layers_at (overwritten edit.old (N.at base.now)) x }
-    ensures links { OnOk result (Relinks (overwritten edit.old (N.at base.now)) (overwritten edit.new (N.at base.now)) layer (joined (links_at (overwritten edit.old (N.at base.now)) layer) x y)) }
+    ensures links { OnOk result (RelinksBy (N.at base.now) edit.old edit.new layer (λ t. joined t x y)) }
     ensures told { reads.new ≤ reads.old + 1 }
 {
     node.links.push(layer, x)?;
@@ -48,7 +48,7 @@ pub(crate) fn displace<N: Nodes, L: Ledger>(
     requires y_stands { layer < layers_at (overwritten edit.old (N.at base.now)) y }
     requires x_stands { layer < layers_at (overwritten edit.old (N.at base.now)) x }
     requires w_stands { layer < layers_at (overwritten edit.old (N.at base.now)) w }
-    ensures links { OnOk result (Relinks (overwritten edit.old (N.at base.now)) (overwritten edit.new (N.at base.now)) layer (displaced (links_at (overwritten edit.old (N.at base.now)) layer) x y w)) }
+    ensures links { OnOk result (RelinksBy (N.at base.now) edit.old edit.new layer (λ t. displaced t x y w)) }
     ensures told { reads.new ≤ reads.old + 2 }
 {
     node.links.remove(layer, w);

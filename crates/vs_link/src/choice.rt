@@ -4,7 +4,7 @@ ghost use Rattle.vs_defs.specs.Vector.{Vector, ham};
 ghost use Rattle.vs_defs.specs.Links.{bits_at};
 ghost use Rattle.vs_defs.specs.Linking as defs;
 ghost use Rattle.vs_graph.specs.Edits.{overwritten};
-ghost use Rattle.vs_graph.specs.Good.{body_at, AreLinksGood};
+ghost use Rattle.vs_graph.specs.Good.{body_at, AreLinksGood, HasGoodLinksFor};
 ghost use Rattle.vs_graph.specs.Bodies.{words_at, AreAlike};
 ghost use Rattle.vs_graph.specs.Standing.{AreIds, members_of, name_of};
 ghost use Rattle.vs_link.specs.Selected.{is_shadowed, selected};
@@ -64,7 +64,7 @@ pub fn select<N: Nodes, L: Ledger>(
     m: u16,
     reads: &mut Steps<L>,
 ) -> Result<List<u32>, NoMemory>
-    requires good { (dim : ℕ) × (dim ≤ 32768) × AreLinksGood (overwritten edit.now (N.at base.now)) m dim }
+    requires good { HasGoodLinksFor (overwritten edit.now (N.at base.now)) m }
     requires live { All (λ key. IsSome (overwritten edit.now (N.at base.now) key.id)) sorted.now }
     ensures chosen { IfOk result (λ chosen. chosen ≡ selected (body_at (overwritten edit.now (N.at base.now))) m sorted.now) }
     ensures named { IfOk result (λ chosen. (dim : ℕ) (ids : Items ℕ) (query : Vector) → AreLinksGood (overwritten edit.now (N.at base.now)) m dim → AreIds (overwritten edit.now (N.at base.now)) ids

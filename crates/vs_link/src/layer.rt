@@ -1,14 +1,15 @@
 //! A member joined at one layer: its chosen are offered in order, and where none accepts, one is made to. Keeps links good, and nobody
 //! loses its last link.
 ghost use Rattle.std.specs.Prelude.{◌≡◌, ◌≢◌, ◌<◌, ◌≤◌, ◌+◌, ◌*◌, ℕ, [], Some, None, OnOk, List, length, map, option_map};
+ghost use Rattle.vs_defs.specs.Limits.{min_m};
 ghost use Rattle.vs_defs.specs.Insertion.{SameLinks};
 ghost use Rattle.vs_defs.specs.Linking as defs;
 ghost use Rattle.vs_graph.specs.Edits.{overwritten};
 ghost use Rattle.vs_graph.specs.Standing.{AreIds, members_of, name_of, named_links};
-ghost use Rattle.vs_graph.specs.Good.{links_at, most_links, StandsAt, AreLinksGood, body_at, layers_at};
+ghost use Rattle.vs_graph.specs.Good.{links_at, most_links, StandsAt, AreLinksGood, body_at, layers_at, HasGoodLinksFor};
 ghost use Rattle.vs_graph.specs.Bodies.{AreAlike};
 ghost use Rattle.vs_graph.specs.GoodTable.{IsGoodTable, KeepsLinked};
-ghost use Rattle.vs_graph.specs.Relinks.{Relinks};
+ghost use Rattle.vs_graph.specs.Relinks.{RelinksBy};
 ghost use Rattle.vs_link.specs.Linked.{linked, target, AreChosen, IsFallback};
 
 use crate::offers::{accept, force};
@@ -46,8 +47,8 @@ pub(crate) fn link_at<N: Nodes, L: Ledger>(
     requires free { links_at (overwritten edit.old (N.at base.now)) layer x ≡ [] }
     requires chosen { AreChosen (layers_at (overwritten edit.old (N.at base.now))) layer most x chosen.now }
     requires fallback { chosen.now ≡ [] → IsFallback (layers_at (overwritten edit.old (N.at base.now))) layer x fallback }
-    ensures links { OnOk result (Relinks (overwritten edit.old (N.at base.now)) (overwritten edit.new (N.at base.now)) layer
-        (linked (body_at (overwritten edit.old (N.at base.now))) most (links_at (overwritten edit.old (N.at base.now)) layer) x chosen.now fallback)) }
+    ensures links { OnOk result (RelinksBy (N.at base.now) edit.old edit.new layer
+        (λ t. linked (body_at (overwritten edit.old (N.at base.now))) most t x chosen.now fallback)) }
     ensures told { reads.new ≤ reads.old + (length chosen.now * (most + 4) + (most + 4)) }
 {
     let mut alone = true;
@@ -88,14 +89,14 @@ pub fn link_layer<N: Nodes, L: Ledger>(
     m: u16,
     reads: &mut Steps<L>,
 ) -> Result<(), NoMemory>
-    requires good { (dim : ℕ) × (dim ≤ 32768) × AreLinksGood (overwritten edit.old (N.at base.now)) m dim }
-    requires low { 4 ≤ m }
+    requires good { HasGoodLinksFor (overwritten edit.old (N.at base.now)) m }
+    requires low { min_m ≤ m }
     requires x_stands { StandsAt (overwritten edit.old (N.at base.now)) layer x }
     requires free { links_at (overwritten edit.old (N.at base.now)) layer x ≡ [] }
     requires chosen { AreChosen (layers_at (overwritten edit.old (N.at base.now))) layer m x chosen.now }
     requires fallback { chosen.now ≡ [] → IsFallback (layers_at (overwritten edit.old (N.at base.now))) layer x fallback }
-    ensures links { OnOk result (Relinks (overwritten edit.old (N.at base.now)) (overwritten edit.new (N.at base.now)) layer
-        (linked (body_at (overwritten edit.old (N.at base.now))) (most_links m layer) (links_at (overwritten edit.old (N.at base.now)) layer) x chosen.now fallback)) }
+    ensures links { OnOk result (RelinksBy (N.at base.now) edit.old edit.new layer
+        (λ t. linked (body_at (overwritten edit.old (N.at base.now))) (most_links m layer) t x chosen.now fallback)) }
     ensures named { OnOk result ((dim : ℕ) (ids : List ℕ) → AreLinksGood (overwritten edit.old (N.at base.now)) m dim → AreIds (overwritten edit.old (N.at base.now)) ids
         → SameLinks (named_links (overwritten edit.new (N.at base.now)) ids)
         (defs.linked m (members_of (overwritten edit.old (N.at base.now)) dim ids) (named_links (overwritten edit.old (N.at base.now)) ids) (name_of (overwritten edit.old (N.at base.now)) x) layer

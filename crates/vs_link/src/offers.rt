@@ -7,7 +7,7 @@ ghost use Rattle.vs_graph.specs.Bodies.{words_at, AreAlike};
 ghost use Rattle.vs_link.specs.Picks.{farthest};
 ghost use Rattle.vs_graph.specs.Table.{is_in};
 ghost use Rattle.vs_graph.specs.GoodTable.{IsGoodTable};
-ghost use Rattle.vs_graph.specs.Relinks.{Relinks};
+ghost use Rattle.vs_graph.specs.Relinks.{RelinksBy};
 ghost use Rattle.vs_link.specs.Linked.{giving_way, accepted, forced_at};
 
 use crate::changes::{displace, join};
@@ -61,8 +61,8 @@ pub(crate) fn accept<N: Nodes, L: Ledger>(
     requires y_stands { layer < layers_at (overwritten edit.old (N.at base.now)) y }
     requires other { x ≢ y }
     requires apart { is_in (links_at (overwritten edit.old (N.at base.now)) layer) x y ≡ false }
-    ensures links { OnOk result (Relinks (overwritten edit.old (N.at base.now)) (overwritten edit.new (N.at base.now)) layer
-        (accepted (body_at (overwritten edit.old (N.at base.now))) most x (links_at (overwritten edit.old (N.at base.now)) layer) y)) }
+    ensures links { OnOk result (RelinksBy (N.at base.now) edit.old edit.new layer
+        (λ t. accepted (body_at (overwritten edit.old (N.at base.now))) most x t y)) }
     ensures taken { IfOk result (λ taken. (length (links_at (overwritten edit.new (N.at base.now)) layer x) == 0) ≡ ((length (links_at (overwritten edit.old (N.at base.now)) layer x) == 0) && not taken)) }
     ensures told { reads.new ≤ reads.old + (most + 4) }
 {
@@ -95,8 +95,8 @@ pub(crate) fn force<N: Nodes, L: Ledger>(
     requires good { IsGoodTable (layers_at (overwritten edit.old (N.at base.now))) layer most (links_at (overwritten edit.old (N.at base.now)) layer) }
     requires x_stands { layer < layers_at (overwritten edit.old (N.at base.now)) x }
     requires y_stands { layer < layers_at (overwritten edit.old (N.at base.now)) y }
-    ensures links { OnOk result (Relinks (overwritten edit.old (N.at base.now)) (overwritten edit.new (N.at base.now)) layer
-        (forced_at (body_at (overwritten edit.old (N.at base.now))) most (links_at (overwritten edit.old (N.at base.now)) layer) x y)) }
+    ensures links { OnOk result (RelinksBy (N.at base.now) edit.old edit.new layer
+        (λ t. forced_at (body_at (overwritten edit.old (N.at base.now))) most t x y)) }
     ensures told { reads.new ≤ reads.old + (most + 4) }
 {
     let own = live_copy(alloc, edit, base, y, reads)?;

@@ -1,6 +1,6 @@
 -- A removal by ids is the definition's removal by names.
 use Rattle.std.proofs.Common.{◌≡◌, ◌≢◌, ℕ, ◌<◌, Bool, true, false, not, cond, eqb, ltb, ◌&&◌, ◌||◌, List, [], ◌∷◌, length, get_or, map, refl, sym, ap, ◌∙◌, subst, arith, inl, inr, ◌⊎◌}
-use Rattle.std.specs.Prelude.{Some, None, IsSome, is_some, IsTrue, IsFalse, nat_eq, filter, Any, Contains, option_map}
+use Rattle.std.specs.Prelude.{IsSome, is_some, IsTrue, IsFalse, nat_eq, filter, Any, Contains, option_map}
 use Rattle.std.specs.List.{list_any}
 use Rattle.std.specs.Option.{option_map_or}
 use Rattle.std.specs.Ordering.{nat_cmp, ordering_then}
@@ -9,6 +9,8 @@ use Rattle.std.specs.declared.cmp.Ordering.TheVariants.{Less}
 use Rattle.std.proofs.lemmas.Bool.{eqb-true, eqb-false, eq-eqb, ne_eqb, both_ways, or_cases, and_parts, and_from, not-true, not_from_false, ltb-true, ltb-false}
 use Rattle.std.proofs.lemmas.List.{get_or-map, length-map}
 use Rattle.std.proofs.lemmas.Slice.Eq.{bytes_eq-Decides}
+use Rattle.std.specs.Cmp.Derive.{one_truth}
+use Rattle.std.proofs.Math.Bool.{and-true, and-false}
 use Rattle.vs_defs.specs.Bytes.{Bytes, same_name, name_cmp}
 use Rattle.vs_defs.specs.Links.{Links, without_links, neighbours}
 use Rattle.vs_defs.specs.Links as defs
@@ -24,14 +26,15 @@ use Rattle.vs_graph.proofs.Lists.{has_without, distinct_without, or_false}
 use Rattle.vs_graph.proofs.Tables.{is_in_joined}
 use Rattle.vs_graph.proofs.Goods.{table_from}
 use Rattle.vs_graph.proofs.Sorts.{In, in_map, from_map, in_filter, from_filter, in_from_test, any_in}
-use Rattle.vs_graph.proofs.Naming.{same_test, neighbours_are, stands_first, names_fixed}
+use Rattle.vs_graph.proofs.Naming.{neighbours_are, stands_first, names_fixed}
 use Rattle.vs_graph.proofs.Standing.{are_members, are_named}
 use Rattle.vs_unlink.specs.declared.Pair.{Pair}
 use Rattle.vs_unlink.specs.Pairs.{detached, paired, share, pair_cmp, IsOpen, IsPairing}
-use Rattle.vs_unlink.specs.Unlinked.{bare, IsTakenOut}
+use Rattle.vs_unlink.specs.Unlinked.{IsTakenOut}
 use Rattle.vs_unlink.proofs.Detached.{is_in_detached}
-use Rattle.vs_unlink.proofs.Layers.{body_bare, no_layers}
+use Rattle.vs_unlink.proofs.Layers.{no_layers}
 use Rattle.vs_unlink.proofs.Pairing.{contains_in, in_contains}
+use Rattle.vs_unlink.proofs.Bare.{body_bare, live_bare}
 
 and_twice : (p q r : Bool) → ((p && q) && r) ≡ (p && (q && r))
 and_twice true q r = refl
@@ -60,18 +63,6 @@ kept p true r h k = absurd (both_ways true h refl)
 kept p false true h k = absurd (both_ways true k refl)
 kept true false false h k = refl
 kept false false false h k = refl
-
-and_true : (p : Bool) → (p && true) ≡ p
-and_true true = refl
-and_true false = refl
-
-and_false : (p : Bool) → (p && false) ≡ false
-and_false true = refl
-and_false false = refl
-
-live_bare : (o : Option Node) → is_some (bare o) ≡ is_some o
-live_bare None = refl
-live_bare (Some node) = refl
 
 no_pairs : (bodies : Bodies) (t : Table) → IsPairing bodies t [] []
 no_pairs bodies t = record {
@@ -116,7 +107,7 @@ module _ (at new : ℕ → Option Node) (x m dim : ℕ) (ids : List ℕ) (good :
 
   same_id : (a b : ℕ) → is_live ids a ≡ true → is_live ids b ≡ true → same_name (name_of at a) (name_of at b) ≡ eqb b a
   same_id a b la lb =
-      same_test (same_name (name_of at a) (name_of at b)) (eqb b a) (λ h. eq-eqb b a (sym (mem.differ a b la lb ((bytes_eq-Decides (name_of at a) (name_of at b)).0 h))))
+      one_truth (same_name (name_of at a) (name_of at b)) (eqb b a) (λ h. eq-eqb b a (sym (mem.differ a b la lb ((bytes_eq-Decides (name_of at a) (name_of at b)).0 h))))
       (λ h. (bytes_eq-Decides (name_of at a) (name_of at b)).1 (ap (name_of at) (sym (eqb-true b a h))))
 
   same_pair : (p : Pair) (a b : ℕ) → is_live ids p.one ≡ true → is_live ids p.other ≡ true → is_live ids a ≡ true → is_live ids b ≡ true
@@ -247,8 +238,8 @@ module _ (at new : ℕ → Option Node) (x m dim : ℕ) (ids : List ℕ) (good :
   -- ---- who is left
 
   live_by : (id : ℕ) (b : Bool) → eqb id x ≡ b → (is_live ids id && not b) ≡ is_some (new id)
-  live_by id true e = and_false (is_live ids id) ∙ sym (ap is_some (ap new (eqb-true id x e) ∙ out.gone))
-  live_by id false e = and_true (is_live ids id) ∙ are.live id ∙ sym (live_bare (at id)) ∙ sym (ap is_some (out.rest id (eqb-false id x e))) ∙ live_bare (new id)
+  live_by id true e = and-false (is_live ids id) ∙ sym (ap is_some (ap new (eqb-true id x e) ∙ out.gone))
+  live_by id false e = and-true (is_live ids id) ∙ are.live id ∙ sym (live_bare (at id)) ∙ sym (ap is_some (out.rest id (eqb-false id x e))) ∙ live_bare (new id)
 
   pub are_left : AreIds new (without x ids)
   are_left = record {

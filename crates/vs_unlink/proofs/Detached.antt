@@ -14,7 +14,7 @@ twice_by : (x y : ℕ) (rest : List ℕ) (b : Bool) → not (eqb y x) ≡ b → 
 twice_by x y rest false e h = h
 twice_by x y rest true e h = ap (λ b. cond b (y ∷ without x rest) (without x rest)) e ∙ ap (λ l. y ∷ l) h
 
-twice : (x : ℕ) (l : List ℕ) → without x (without x l) ≡ without x l
+pub twice : (x : ℕ) (l : List ℕ) → without x (without x l) ≡ without x l
 twice x [] = refl
 twice x (y ∷ ys) = twice_by x y (without x ys) (not (eqb y x)) refl (twice x ys)
 
@@ -22,7 +22,7 @@ absent_by : (x y : ℕ) (rest ys : List ℕ) (b : Bool) → eqb y x ≡ b → (e
 absent_by x y rest ys true e h k = absurd (both_ways (eqb x y) (or_parts (eqb x y) (list_any (nat_eq x) ys) h).0 (eq-eqb x y (sym (eqb-true y x e))))
 absent_by x y rest ys false e h k = ap (λ l. y ∷ l) k
 
-absent : (x : ℕ) (l : List ℕ) → list_any (nat_eq x) l ≡ false → without x l ≡ l
+pub absent : (x : ℕ) (l : List ℕ) → list_any (nat_eq x) l ≡ false → without x l ≡ l
 absent x [] h = refl
 absent x (y ∷ ys) h = absent_by x y (without x ys) ys (eqb y x) refl h (absent x ys (or_parts (eqb x y) (list_any (nat_eq x) ys) h).1)
 

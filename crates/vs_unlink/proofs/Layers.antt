@@ -6,7 +6,6 @@ use Rattle.std.specs.Option.{option_map_or}
 use Rattle.std.specs.declared.option.Option.{Option}
 use Rattle.std.proofs.Math.Path.{fun_ext}
 use Rattle.std.proofs.lemmas.Bool.{eqb-true, eqb-false, eq-eqb, ne_eqb, both_ways, or_from, ltb-true, ltb-false, cond-true}
-use Rattle.std.proofs.lemmas.List.{length-map}
 use Rattle.std.proofs.lemmas.Option.{slice_get_past}
 use Rattle.vs_graph.specs.declared.node.Node.{Node}
 use Rattle.vs_graph.specs.declared.edit.Edit.{Edit}
@@ -24,6 +23,7 @@ use Rattle.vs_unlink.specs.Unlinked.{bare, IsOutBelow, IsTakenOut}
 use Rattle.vs_graph.proofs.Sorts.{In}
 use Rattle.vs_unlink.proofs.Pairing.{in_contains}
 use Rattle.vs_unlink.proofs.Paired.{same_list}
+use Rattle.vs_unlink.proofs.Bare.{body_bare, layers_bare}
 
 emptied : (xs : List (List ℕ)) (i : ℕ) → map {A = List ℕ} {B = List ℕ} (λ list. []) (slice_set xs i []) ≡ map (λ list. []) xs
 emptied [] i = refl
@@ -36,14 +36,6 @@ bare_cleared layer (Some node) = ap (λ links. Some (record node { links = links
 
 pub bare_kept : (at new : ℕ → Option Node) (layer : ℕ) (t : Table) → Relinks at new layer t → (id : ℕ) → bare (new id) ≡ bare (at id)
 bare_kept at new layer t r id = sym (bare_cleared layer (new id)) ∙ ap bare (r.rest id) ∙ bare_cleared layer (at id)
-
-pub body_bare : (o : Option Node) → option_map (λ node. node.body) (bare o) ≡ option_map (λ node. node.body) o
-body_bare None = refl
-body_bare (Some node) = refl
-
-pub layers_bare : (o : Option Node) → option_map_or (λ node. length node.links) (bare o) 0 ≡ option_map_or (λ node. length node.links) o 0
-layers_bare None = refl
-layers_bare (Some node) = length-map node.links (λ list. [])
 
 bodies_by : (at new : ℕ → Option Node) → ((id : ℕ) → bare (new id) ≡ bare (at id)) → body_at new ≡ body_at at
 bodies_by at new rest = fun_ext (λ id. sym (body_bare (new id)) ∙ ap (option_map (λ node. node.body)) (rest id) ∙ body_bare (at id))

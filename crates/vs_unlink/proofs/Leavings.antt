@@ -1,9 +1,9 @@
 -- The members that are left where one is taken out and the nodes of all others are as they were but for links.
-use Rattle.std.proofs.Common.{◌≡◌, ◌≢◌, ℕ, true, not, eqb, List, [], ◌∷◌, map, refl, sym, ap, ◌∙◌, inl, inr}
+use Rattle.std.proofs.Common.{◌≡◌, ◌≢◌, ℕ, true, not, eqb, List, map, refl, sym, ap, ◌∙◌, inl, inr}
 use Rattle.std.specs.Prelude.{Some, None, IsSome}
 use Rattle.std.specs.Option.{option_map_or}
 use Rattle.std.specs.declared.option.Option.{Option}
-use Rattle.std.proofs.lemmas.Bool.{cases_eq, not-true, eq-eqb, eqb-false, ne_eqb}
+use Rattle.std.proofs.lemmas.Bool.{cases_eq, not-true, eq-eqb, eqb-false, ne_eqb, false_from_ne_true}
 use Rattle.std.proofs.lemmas.Slice.Eq.{bytes_eq-Decides}
 use Rattle.vs_defs.specs.Bytes.{same_name}
 use Rattle.vs_defs.specs.Store.{Member, is_of_name, no_member}
@@ -13,14 +13,9 @@ use Rattle.vs_graph.specs.Good.{AreLinksGood}
 use Rattle.vs_graph.specs.Named.{is_live}
 use Rattle.vs_graph.specs.Table.{without}
 use Rattle.vs_graph.specs.Standing.{AreIds, member_of_node, member_at, members_of, name_of}
-use Rattle.vs_graph.proofs.Lists.{not_true}
-use Rattle.vs_graph.proofs.Sorts.{In, filter_of_map, filter_same, test_from_in, from_filter}
+use Rattle.vs_graph.proofs.Sorts.{In, filter_of_map, filter_same, test_from_in, from_filter, map_same_in}
 use Rattle.vs_graph.proofs.Standing.{member_name, names_differ}
 use Rattle.vs_unlink.specs.Unlinked.{bare}
-
-pub map_same_in : {X Y : Type 0} (f g : X → Y) (xs : List X) → ((x : X) → In x xs → f x ≡ g x) → map f xs ≡ map g xs
-map_same_in f g [] h = refl
-map_same_in f g (x ∷ xs) h = ap (λ y. y ∷ map f xs) (h x (inl refl)) ∙ ap (λ l. g x ∷ l) (map_same_in f g xs (λ y k. h y (inr k)))
 
 member_bare : (dim : ℕ) (o : Option Node) → option_map_or (member_of_node dim) (bare o) no_member ≡ option_map_or (member_of_node dim) o no_member
 member_bare dim None = refl
@@ -36,7 +31,7 @@ module _ (at new : ℕ → Option Node) (x m dim : ℕ) (ids : List ℕ) (good :
   is_x q live_q = elim (cases_eq q x) [
     | inl is ↦ ap not ((bytes_eq-Decides (name_of at x) (member_at at dim q).name).1 (ap (name_of at) (sym is) ∙ sym (member_name at m dim q)) ∙ sym (eq-eqb q x is))
     | inr ne ↦
-        ap not (not_true (same_name (name_of at x) (member_at at dim q).name)
+        ap not (false_from_ne_true (same_name (name_of at x) (member_at at dim q).name)
         (λ h. ne (sym (names_differ at m dim ids good are x q (are.live x ∙ live) live_q ((bytes_eq-Decides (name_of at x) (member_at at dim q).name).0 h ∙ member_name at m dim q)))) ∙ sym (ne_eqb q x ne))
   ]
 

@@ -1,4 +1,4 @@
-pub mod Standing
+pub mod Bare
 pub mod Steps
 pub mod ByName
 pub mod Ranked

@@ -19,7 +19,7 @@ use Rattle.vs_unlink.specs.Orphans.{AreAlone, at_layer, Lists, none, next, Keeps
 use Rattle.vs_unlink.specs.Pairs.{detached, paired}
 use Rattle.vs_unlink.specs.Unlinked.{IsTakenOut}
 use Rattle.vs_unlink.proofs.Pairing.{contains_in, in_contains}
-use Rattle.vs_unlink.proofs.Reordered.{absent}
+use Rattle.vs_unlink.proofs.Detached.{absent}
 
 abbrev orphan_at : ℕ → ℕ → Orphan
 orphan_at layer y = record { layer = layer; id = y }

@@ -10,13 +10,14 @@ use Rattle.vs_graph.specs.Bodies.{Bodies}
 use Rattle.vs_graph.specs.Table.{Table, is_in}
 use Rattle.vs_graph.specs.Good.{layers_at}
 use Rattle.vs_graph.proofs.Relinking.{links_there}
-use Rattle.vs_unlink.proofs.Standing.{in_at, live_from_layers}
 use Rattle.vs_graph.proofs.Goods.{table_from}
+use Rattle.vs_graph.proofs.NodeLaws.{live_from_layers}
+use Rattle.vs_graph.proofs.CommonLaws.{in_at}
 use Rattle.std.proofs.lemmas.Bool.{both_ways}
 use Rattle.vs_unlink.specs.declared.Orphan.{Orphan}
 use Rattle.vs_unlink.specs.Orphans.{AreAlone, at_layer, Lists, next}
 use Rattle.vs_unlink.specs.Unlinked.{IsTakenOut}
-use Rattle.vs_unlink.proofs.Layers.{layers_bare}
+use Rattle.vs_unlink.proofs.Bare.{layers_bare}
 
 -- the orphans with those of the next layer down
 pub lists_more : (bodies : Bodies) (tables : ℕ → Table) (former : ℕ → List ℕ) (count layer : ℕ) (os all : List Orphan) → 0 < layer → Lists bodies tables former count layer os

@@ -6,6 +6,7 @@ use Rattle.std.specs.List.{list_any, IsDistinct}
 use Rattle.std.proofs.lemmas.Bool.{cases_eq, eq-eqb, ne_eqb, or_from, ltb-true, ltb-false}
 use Rattle.std.proofs.lemmas.List.{get_or-set_same, get_or-set_other, length-set}
 use Rattle.std.proofs.lemmas.List.Folds.{list_any-append}
+use Rattle.std.proofs.Math.Bool.{or-true}
 use Rattle.vs_graph.proofs.Lists.{or_false}
 use Rattle.vs_unlink.specs.declared.Pair.{Pair}
 use Rattle.vs_unlink.specs.declared.pairs.Candidate.{Candidate}
@@ -31,12 +32,8 @@ shares_by (q ∷ qs) p = ap (λ b. share q p || b) (shares_by qs p) ∙ exchange
 has_one : (p : Pair) → has p p.one ≡ true
 has_one p = ap (λ b. b || nat_eq p.one p.other) (eq-eqb p.one p.one refl)
 
-or_true : (b : Bool) → (b || true) ≡ true
-or_true true = refl
-or_true false = refl
-
 has_other : (p : Pair) → has p p.other ≡ true
-has_other p = ap (λ b. nat_eq p.other p.one || b) (eq-eqb p.other p.other refl) ∙ or_true (nat_eq p.other p.one)
+has_other p = ap (λ b. nat_eq p.other p.one || b) (eq-eqb p.other p.other refl) ∙ or-true (nat_eq p.other p.one)
 
 module _ (ranked : List ℕ) (once : IsDistinct nat_eq ranked) (marks : List Bool) (added : List Pair) (a b : ℕ) (la : a < length ranked) (lb : b < length ranked) (m : AreMarks ranked marks added) where
   abbrev pair : Pair
@@ -56,7 +53,7 @@ module _ (ranked : List ℕ) (once : IsDistinct nat_eq ranked) (marks : List Boo
 
   -- a place of the pair is marked
   marked_as : (k : ℕ) → get_or marked k false ≡ true → has pair (get_or ranked k 0) ≡ true → get_or marked k false ≡ list_any (λ q. has q (get_or ranked k 0)) (added ++ pair ∷ [])
-  marked_as k one two = one ∙ sym (now_has k ∙ ap (λ c. list_any (λ q. has q (get_or ranked k 0)) added || c) two ∙ or_true (list_any (λ q. has q (get_or ranked k 0)) added))
+  marked_as k one two = one ∙ sym (now_has k ∙ ap (λ c. list_any (λ q. has q (get_or ranked k 0)) added || c) two ∙ or-true (list_any (λ q. has q (get_or ranked k 0)) added))
 
   each_now : (k : ℕ) → k < length ranked → get_or marked k false ≡ list_any (λ q. has q (get_or ranked k 0)) (added ++ pair ∷ [])
   each_now k lk = elim (cases_eq k b) [

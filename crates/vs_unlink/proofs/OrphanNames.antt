@@ -10,6 +10,7 @@ use Rattle.std.proofs.lemmas.List.{map-append}
 use Rattle.std.proofs.lemmas.List.Concat.{flat_map-append}
 use Rattle.std.proofs.lemmas.List.Elements.{filter-append}
 use Rattle.std.proofs.lemmas.List.Sorted.{IsPermutation-map, IsPermutation-sym, IsPermutation-trans, Contains-permutation}
+use Rattle.std.specs.Cmp.Derive.{one_truth}
 use Rattle.vs_defs.specs.Bytes.{Bytes, name_cmp, sort_by}
 use Rattle.vs_defs.specs.Store.{Member, no_member}
 use Rattle.vs_defs.specs.Links.{neighbours}
@@ -21,20 +22,21 @@ use Rattle.vs_graph.specs.Table.{is_in, without}
 use Rattle.vs_graph.specs.Named.{is_live}
 use Rattle.vs_graph.specs.Standing.{AreIds, member_of_node, member_at, members_of, name_of, named_links, set_of}
 use Rattle.vs_graph.proofs.Goods.{table_from}
-use Rattle.vs_graph.proofs.Naming.{same_test}
-use Rattle.vs_graph.proofs.Sorts.{In, in_filter, from_filter, filter_of_map, filter_same, in_from_test, test_from_in}
+use Rattle.vs_graph.proofs.Sorts.{In, in_filter, from_filter, filter_of_map, filter_same, in_from_test, test_from_in, map_same_in}
 use Rattle.vs_graph.proofs.Standing.{degree, member_there}
+use Rattle.vs_graph.proofs.Lists.{distinct_filter}
+use Rattle.vs_graph.proofs.CommonLaws.{no_layers}
 use Rattle.vs_rank.proofs.Sorted.{sort_is, ascends_from_sort}
 use Rattle.vs_unlink.specs.declared.Orphan.{Orphan}
 use Rattle.vs_unlink.specs.Orphans.{AreAlone, at_layer, Lists, none, next, named_orphan}
 use Rattle.vs_unlink.specs.Unlinked.{IsTakenOut}
 use Rattle.vs_unlink.proofs.Pairing.{contains_in, in_contains}
 use Rattle.vs_unlink.proofs.Bynames.{former_are, live_former, other_former, are_left, still, name_new}
-use Rattle.vs_unlink.proofs.Leavings.{map_same_in, members_left}
-use Rattle.vs_unlink.proofs.Reordered.{distinct_filter, same_ids, name_order, filter_sorted, names_sorted, none_below, layers_more}
+use Rattle.vs_unlink.proofs.Leavings.{members_left}
+use Rattle.vs_unlink.proofs.Reordered.{same_ids, name_order, filter_sorted, names_sorted, layers_more}
 
 none_at : (n : ℕ) → nat_lt n 1 ≡ nat_eq n 0
-none_at n = same_test (nat_lt n 1) (nat_eq n 0) (λ h. eq-eqb n 0 (omega (arith, ltb-true n 1 h))) (λ h. lt-ltb n 1 (omega (arith, eqb-true n 0 h)))
+none_at n = one_truth (nat_lt n 1) (nat_eq n 0) (λ h. eq-eqb n 0 (omega (arith, ltb-true n 1 h))) (λ h. lt-ltb n 1 (omega (arith, eqb-true n 0 h)))
 
 layers_by : (m dim : ℕ) (o : Option Node) → IsSome o → IfSome o (IsGoodNode m dim)
     → option_map_or (λ node. length node.links) o 0 ≡ (option_map_or (member_of_node dim) o no_member).level + 1
@@ -87,7 +89,7 @@ module _ (at new : ℕ → Option Node) (x m dim : ℕ) (ids : List ℕ) (good :
   same_alone layer =
       same_ids (filter (is_alone layer) (former layer)) (filter (is_alone layer) (links_at at layer x))
       (distinct_filter (is_alone layer) (former layer) (distinct_filter (is_in (links_at at layer) x) ids are.once))
-      (distinct_filter (is_alone layer) (links_at at layer x) ((table_from at m dim layer good).once x)) (λ y. same_test _ _ (alone_in layer y) (alone_from layer y))
+      (distinct_filter (is_alone layer) (links_at at layer x) ((table_from at m dim layer good).once x)) (λ y. one_truth _ _ (alone_in layer y) (alone_from layer y))
 
   -- ---- the orphans of a layer
 
@@ -138,7 +140,7 @@ module _ (at new : ℕ → Option Node) (x m dim : ℕ) (ids : List ℕ) (good :
       ∙ ap (λ l. filter p (flat_map former_at (layers_down high (n + 1)) ++ l)) (append-nil (former_at n)) ∙ filter-append p (flat_map former_at (layers_down high (n + 1))) (former_at n)
 
   listed : (high count n : ℕ) (all : List Orphan) → count ≡ high + 1 → Lists (body_at new) (links_at new) (λ l. links_at at l x) count n all → (n ≤ count) × (map (named_orphan at) all ≡ unlinked_down high n)
-  listed high count n all e none = (omega arith, ap (λ ls. filter (λ (c : ℕ × Bytes). is_unlinked c.0 c.1) (flat_map former_at ls)) (sym (none_below high count (omega (arith, e)))))
+  listed high count n all e none = (omega arith, ap (λ ls. filter (λ (c : ℕ × Bytes). is_unlinked c.0 c.1) (flat_map former_at ls)) (sym (no_layers high count (omega (arith, e)))))
   listed high count n all e (next k os alone above h) =
       let r = listed high count (k + 1) os e above in (
         omega (arith, r.0),

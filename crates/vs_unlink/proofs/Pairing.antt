@@ -6,12 +6,12 @@ use Rattle.std.specs.Ordering.{nat_cmp, ordering_then, is_gt, is_lt}
 use Rattle.std.specs.declared.cmp.Ordering.{Ordering}
 use Rattle.std.specs.declared.cmp.Ordering.TheVariants.{Less, Equal, Greater}
 use Rattle.std.proofs.lemmas.Map.Lookups.{exact_bytes}
-use Rattle.std.proofs.lemmas.Bool.{both_ways, or_cases}
+use Rattle.std.proofs.lemmas.Bool.{both_ways}
 use Rattle.std.proofs.lemmas.List.Folds.{list_any_at}
 use Rattle.std.proofs.lemmas.List.Quantifiers.{all_pairs_push}
 use Rattle.vs_graph.specs.Bodies.{Bodies, name_at, gap}
 use Rattle.vs_graph.specs.Table.{Table}
-use Rattle.vs_graph.proofs.Sorts.{In}
+use Rattle.vs_graph.proofs.Sorts.{In, any_in, less_or_same}
 use Rattle.vs_unlink.specs.declared.Pair.{Pair}
 use Rattle.vs_unlink.specs.Pairs.{pair_cmp, share, IsOpen, IsPairing, take_pair, matched, Differ}
 
@@ -54,13 +54,6 @@ none_at f xs k d none h = by_value (f (get_or xs k d)) refl where
   by_value true e = absurd (both_ways (list_any f xs) none (list_any_at f xs k d h e))
   by_value false e = refl
 
-some_in : {X : Type 0} (f : X → Bool) (xs : List X) → list_any f xs ≡ true → (x : X) × In x xs × (f x ≡ true)
-some_in f [] h = absurd (both_ways false refl h)
-some_in f (x ∷ xs) h = elim (or_cases (f x) (list_any f xs) h) [
-  | inl e ↦ (x, inl refl, e)
-  | inr k ↦ (let r = some_in f xs k in (r.0, inr r.1, r.2))
-]
-
 module _ (bodies : Bodies) where
   -- r has a member in a taken pair that isn't after it
   abbrev pub IsBarred : List Pair → Pair → Type 0
@@ -86,7 +79,7 @@ module _ (bodies : Bodies) where
     rest = λ r h. elim (in_either r done (q ∷ []) h) [
       | inl k ↦ m.rest r k
       | inr k ↦ elim k [
-        | inl s ↦ (let w = some_in (λ p. share p q) added e in inr (w.0, w.1, ap (share w.0) s ∙ w.2, ap (λ z. is_gt (pair_cmp bodies w.0 z)) s ∙ before w.0 (m.from w.0 w.1)))
+        | inl s ↦ (let w = any_in (λ p. share p q) added e in inr (w.0, w.1, ap (share w.0) s ∙ w.2, ap (λ z. is_gt (pair_cmp bodies w.0 z)) s ∙ before w.0 (m.from w.0 w.1)))
         | inr n ↦ absurd n
       ]
     ];
@@ -123,11 +116,6 @@ then_equal : (o p : Ordering) → ordering_then o p ≡ Equal → (o ≡ Equal) 
 then_equal Equal p h = (refl, h)
 then_equal Less p h = absurd (both_ways (is_lt Less) (ap is_lt h) refl)
 then_equal Greater p h = absurd (both_ways (is_gt Greater) (ap is_gt h) refl)
-
-less_or_same : (o : Ordering) → is_gt o ≡ false → (o ≡ Less) ⊎ (o ≡ Equal)
-less_or_same Less h = inl refl
-less_or_same Equal h = inr refl
-less_or_same Greater h = absurd (both_ways true h refl)
 
 tied : (bodies : Bodies) (t : Table) (former : List ℕ) (p r : Pair) → Differ bodies former → IsOpen bodies t former p → IsOpen bodies t former r → pair_cmp bodies p r ≡ Equal → p ≡ r
 tied bodies t former p r differ op or' h =

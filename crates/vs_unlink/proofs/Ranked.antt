@@ -18,13 +18,13 @@ use Rattle.std.proofs.lemmas.Map.Made.{AllPairs-from_IsDistinct}
 use Rattle.vs_graph.specs.Bodies.{Bodies, name_at, gap}
 use Rattle.vs_graph.specs.Table.{Table}
 use Rattle.vs_graph.proofs.Sorts.{In, from_map, in_from_test, less_or_same}
+use Rattle.vs_graph.proofs.CommonLaws.{in_at, nat_eq_flips}
 use Rattle.vs_unlink.specs.declared.Pair.{Pair}
 use Rattle.vs_unlink.specs.declared.pairs.Candidate.{Candidate}
 use Rattle.vs_unlink.specs.Candidates.{pair_at, IsCandidate, IsWithin, HasPairsBelow}
 use Rattle.vs_unlink.specs.Named.{AreByName}
 use Rattle.vs_unlink.specs.Pairs.{pair_cmp, IsOpen, IsPairing, matched, Differ}
 use Rattle.vs_unlink.proofs.Pairing.{Sorted, contains_in, in_contains, pairing_is}
-use Rattle.vs_unlink.proofs.Standing.{in_at}
 
 abbrev pub candidate_cmp : Candidate → Candidate → Ordering
 candidate_cmp x y = ordering_then (nat_cmp x.dist y.dist) (ordering_then (nat_cmp x.one y.one) (nat_cmp x.other y.other))
@@ -45,15 +45,6 @@ lt_gt o Less e h = refl
 lt_gt o Equal e h = refl
 lt_gt o Greater e h = absurd (both_ways (is_lt o) h (ap is_lt e))
 
-pub eqb_flips : (a b : ℕ) → nat_eq a b ≡ nat_eq b a
-eqb_flips a b = by_test (nat_eq a b) refl where
-  by_test : (test : Bool) → nat_eq a b ≡ test → nat_eq a b ≡ nat_eq b a
-  by_test true e = e ∙ sym (eq-eqb b a (sym (eqb-true a b e)))
-  by_test false e = e ∙ sym (none (nat_eq b a) refl) where
-    none : (other : Bool) → nat_eq b a ≡ other → other ≡ false
-    none true f = absurd (both_ways (nat_eq a b) e (eq-eqb a b (sym (eqb-true b a f))))
-    none false f = refl
-
 -- ids at different places differ
 pub apart_at : (xs : List ℕ) → IsDistinct nat_eq xs → (a b : ℕ) → a < b → b < length xs → get_or xs a 0 ≢ get_or xs b 0
 apart_at xs once a b low high = AllPairs-from_IsDistinct (λ x y. (eqb-true x y, eq-eqb x y)) xs once a b 0 low high
@@ -73,7 +64,7 @@ module _ (bodies : Bodies) (t : Table) (former ranked : List ℕ) (once : IsDist
   in_former a h = list_any-IsPermutation (nat_eq (get_or ranked a 0)) former ranked by.same ∙ in_at ranked a 0 h
 
   apart : (a b : ℕ) → a < b → b < length ranked → get_or ranked a 0 ≢ get_or ranked b 0
-  apart = apart_at ranked (IsDistinct-IsPermutation nat_eq eqb_flips former ranked by.same once)
+  apart = apart_at ranked (IsDistinct-IsPermutation nat_eq nat_eq_flips former ranked by.same once)
 
   up : (a b : ℕ) → a < b → b < length ranked → is_gt (slice_cmp nat_cmp (name a) (name b)) ≡ false
   up a b low high =

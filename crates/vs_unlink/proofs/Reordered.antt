@@ -5,38 +5,22 @@ use Rattle.std.specs.List.{list_any, IsDistinct}
 use Rattle.std.specs.List.Sorted.{IsPermutation, IsSorted}
 use Rattle.std.specs.Ordering.{is_lt}
 use Rattle.std.specs.declared.cmp.Ordering.{Ordering}
-use Rattle.std.proofs.lemmas.Bool.{both_ways, cases_eq, eqb-true, eqb-false, eq-eqb, or_left, or_parts, or_cases, cond-true, cond-false, leb-true, le-leb}
+use Rattle.std.proofs.lemmas.Bool.{both_ways, cases_eq, eqb-true, eqb-false, eq-eqb, or_left, or_cases, cond-true, le-leb}
 use Rattle.std.proofs.lemmas.Cmp.{nat_list_cmp_total}
 use Rattle.std.proofs.lemmas.List.{get_or-map, length-map}
-use Rattle.std.proofs.lemmas.List.Elements.{All-from_recursion, recursion_from_All, All-filter}
 use Rattle.std.proofs.lemmas.List.Sorted.{IsPermutation-refl, IsPermutation-sym, IsPermutation-trans, IsPermutation-cons, IsPermutation-swap}
-use Rattle.std.proofs.lemmas.Map.Keys.{IsDistinct-head, IsDistinct-tail, IsDistinct-cons}
+use Rattle.std.proofs.lemmas.Map.Keys.{IsDistinct-tail}
 use Rattle.std.proofs.lemmas.Map.Lookups.{exact_bytes}
+use Rattle.std.proofs.Math.Bool.{and-true, and-false}
 use Rattle.vs_defs.specs.Bytes.{Bytes, name_cmp, place_by, sort_by}
 use Rattle.vs_defs.specs.Beam.{layers_down}
 use Rattle.vs_graph.specs.Table.{without}
-use Rattle.vs_graph.proofs.Lists.{not_true, has_without, distinct_without, head_absent}
+use Rattle.vs_graph.proofs.Lists.{has_without, distinct_without, head_absent}
+use Rattle.vs_graph.proofs.CommonLaws.{no_layers}
 use Rattle.vs_rank.proofs.Sorted.{IsOrder, order_of, ascends_sorted, filter_placed}
+use Rattle.vs_unlink.proofs.Detached.{absent}
 
 -- ---- ids
-
-distinct_by : (p : ℕ → Bool) (x : ℕ) (xs : List ℕ) (b : Bool) → IsDistinct nat_eq (x ∷ xs) → IsDistinct nat_eq (filter p xs) → IsDistinct nat_eq (cond b (x ∷ filter p xs) (filter p xs))
-distinct_by p x xs false d rest = rest
-distinct_by p x xs true d rest =
-    IsDistinct-cons nat_eq x (filter p xs)
-    (recursion_from_All (λ y. nat_eq x y ≡ false) (filter p xs) (All-filter p (λ y. nat_eq x y ≡ false) xs (All-from_recursion (λ y. nat_eq x y ≡ false) xs (IsDistinct-head nat_eq x xs d)))) rest
-
-pub distinct_filter : (p : ℕ → Bool) (xs : List ℕ) → IsDistinct nat_eq xs → IsDistinct nat_eq (filter p xs)
-distinct_filter p [] d = d
-distinct_filter p (x ∷ xs) d = distinct_by p x xs (p x) d (distinct_filter p xs (IsDistinct-tail nat_eq x xs d))
-
-absent_by : (x y : ℕ) (ys rest : List ℕ) (b : Bool) → eqb y x ≡ b → eqb x y ≡ false → rest ≡ ys → cond (not b) (y ∷ rest) rest ≡ y ∷ ys
-absent_by x y ys rest true e h f = absurd (eqb-false x y h (sym (eqb-true y x e)))
-absent_by x y ys rest false e h f = ap (λ l. y ∷ l) f
-
-pub absent : (x : ℕ) (ys : List ℕ) → list_any (nat_eq x) ys ≡ false → without x ys ≡ ys
-absent x [] h = refl
-absent x (y ∷ ys) h = let p = or_parts (eqb x y) (list_any (nat_eq x) ys) h in absent_by x y ys (without x ys) (eqb y x) refl p.0 (absent x ys p.1)
 
 to_front_by : (x y : ℕ) (ys : List ℕ) (b : Bool) → eqb y x ≡ b → IsDistinct nat_eq (y ∷ ys) → (eqb x y || list_any (nat_eq x) ys) ≡ true
     → (list_any (nat_eq x) ys ≡ true → IsPermutation ys (x ∷ without x ys)) → IsPermutation (y ∷ ys) (x ∷ cond (not b) (y ∷ without x ys) (without x ys))
@@ -52,17 +36,9 @@ to_front : (x : ℕ) (ys : List ℕ) → IsDistinct nat_eq ys → list_any (nat_
 to_front x [] d h = absurd (both_ways false refl h)
 to_front x (y ∷ ys) d h = to_front_by x y ys (eqb y x) refl d h (to_front x ys (IsDistinct-tail nat_eq y ys d))
 
-and_true : (b : Bool) → (b && true) ≡ b
-and_true true = refl
-and_true false = refl
-
-and_false : (b : Bool) → (b && false) ≡ false
-and_false true = refl
-and_false false = refl
-
 others_by : (x z : ℕ) (xs : List ℕ) (b q : Bool) → eqb z x ≡ b → list_any (nat_eq x) xs ≡ false → (b || list_any (nat_eq z) xs) ≡ q → list_any (nat_eq z) xs ≡ (q && not b)
-others_by x z xs true q e none h = ap (λ k. list_any (nat_eq k) xs) (eqb-true z x e) ∙ none ∙ sym (and_false q)
-others_by x z xs false q e none h = h ∙ sym (and_true q)
+others_by x z xs true q e none h = ap (λ k. list_any (nat_eq k) xs) (eqb-true z x e) ∙ none ∙ sym (and-false q)
+others_by x z xs false q e none h = h ∙ sym (and-true q)
 
 -- two lists of the same ids, each once
 pub same_ids : (xs ys : List ℕ) → IsDistinct nat_eq xs → IsDistinct nat_eq ys → ((z : ℕ) → list_any (nat_eq z) xs ≡ list_any (nat_eq z) ys) → IsPermutation xs ys
@@ -98,10 +74,6 @@ names_sorted name ids up = λ k d low high.
 
 -- ---- layers
 
-pub none_below : (high low : ℕ) → high < low → layers_down high low ≡ []
-none_below zero low h = cond-false (nat_le low 0) (0 ∷ []) [] (not_true (nat_le low 0) (λ e. omega (arith, h, leb-true low 0 e)))
-none_below (suc high) low h = cond-false (nat_le low (suc high)) (suc high ∷ layers_down high low) [] (not_true (nat_le low (suc high)) (λ e. omega (arith, h, leb-true low (suc high) e)))
-
 -- one layer more goes last
 pub layers_more : (high n : ℕ) → n ≤ high → layers_down high n ≡ layers_down high (n + 1) ++ n ∷ []
 layers_more zero n h = let is : 0 ≡ n = omega (arith, h) in subst (λ k. layers_down 0 k ≡ layers_down 0 (k + 1) ++ k ∷ []) is refl
@@ -109,7 +81,7 @@ layers_more (suc high) n h =
     elim (cases_eq n (suc high)) [
       | inl is ↦ subst (λ k. layers_down (suc high) k ≡ layers_down (suc high) (k + 1) ++ k ∷ []) (sym is) (
           cond-true (nat_le (suc high) (suc high)) (suc high ∷ layers_down high (suc high)) [] (le-leb (suc high) (suc high) (omega arith))
-          ∙ ap (λ l. suc high ∷ l) (none_below high (suc high) (omega arith)) ∙ ap (λ l. l ++ suc high ∷ []) (sym (none_below (suc high) (suc high + 1) (omega arith))))
+          ∙ ap (λ l. suc high ∷ l) (no_layers high (suc high) (omega arith)) ∙ ap (λ l. l ++ suc high ∷ []) (sym (no_layers (suc high) (suc high + 1) (omega arith))))
       | inr ne ↦
           cond-true (nat_le n (suc high)) (suc high ∷ layers_down high n) [] (le-leb n (suc high) h) ∙ ap (λ l. suc high ∷ l) (layers_more high n (omega (arith, h, ne)))
           ∙ ap (λ l. l ++ n ∷ []) (sym (cond-true (nat_le (n + 1) (suc high)) (suc high ∷ layers_down high (n + 1)) [] (le-leb (n + 1) (suc high) (omega (arith, h, ne)))))

@@ -1,12 +1,10 @@
 -- Where the loops of a removal stand, and what is known of the graph after it.
-use Rattle.std.proofs.Common.{◌≡◌, ℕ, ◌<◌, ◌≤◌, ◌+◌, true, false, List, [], length, get_or, take, refl, sym, ap, ◌∙◌, subst}
-use Rattle.std.specs.Prelude.{Some, None, IsSome, IfSome, fold, nat_eq, option_map}
+use Rattle.std.proofs.Common.{◌≡◌, ℕ, ◌<◌, ◌≤◌, ◌+◌, true, List, [], length, get_or, take, sym, ap, ◌∙◌, subst}
+use Rattle.std.specs.Prelude.{IsSome, fold, nat_eq}
 use Rattle.std.specs.List.{list_any}
-use Rattle.std.specs.Option.{option_map_or}
 use Rattle.std.specs.declared.option.Option.{Option}
 use Rattle.std.proofs.lemmas.List.{take_all}
 use Rattle.std.proofs.lemmas.List.Sums.{fold_more}
-use Rattle.std.proofs.lemmas.Bool.{both_ways}
 use Rattle.vs_graph.specs.declared.node.Node.{Node}
 use Rattle.vs_graph.specs.Good.{links_at, most_links, AreLinksGood}
 use Rattle.vs_graph.specs.Good.{body_at}
@@ -15,10 +13,11 @@ use Rattle.vs_graph.specs.Table.{Table, put, leave, add, joined}
 use Rattle.vs_graph.specs.GoodTable.{IsGoodTable}
 use Rattle.vs_graph.specs.Good.{layers_at}
 use Rattle.vs_graph.specs.Relinks.{Relinks}
-use Rattle.vs_graph.proofs.Relinking.{relinks_then, leaves_then, adds_then, same_bodies}
-use Rattle.vs_unlink.proofs.Standing.{in_at, live_from_layers}
-use Rattle.vs_unlink.proofs.Standing.{stands_now}
+use Rattle.vs_graph.proofs.Relinking.{relinks_then, leaves_then, adds_then, same_bodies, stands_now}
 use Rattle.vs_graph.proofs.Goods.{table_from, alike_from, good_after}
+use Rattle.vs_graph.proofs.NodeLaws.{live_from_layers}
+use Rattle.vs_graph.proofs.CommonLaws.{in_at}
+use Rattle.vs_graph.proofs.Standing.{differ_by}
 use Rattle.vs_unlink.specs.declared.Pair.{Pair}
 use Rattle.vs_unlink.specs.Pairs.{detached, paired, Differ, IsPairing}
 use Rattle.vs_unlink.proofs.Detached.{detached_is}
@@ -53,12 +52,6 @@ joined_more at now mid new layer ps i d h r one two =
 
 -- ---- names
 
-names_of : (a b : ℕ) (oa ob : Option Node) → IsSome oa → IsSome ob → IfSome oa (λ x. IfSome ob (λ y. x.body.name ≡ y.body.name → a ≡ b))
-    → option_map_or (λ body. body.name) (option_map (λ node. node.body) oa) [] ≡ option_map_or (λ body. body.name) (option_map (λ node. node.body) ob) [] → a ≡ b
-names_of a b None ob la lb h e = absurd (both_ways false refl la)
-names_of a b (Some x) None la lb h e = absurd (both_ways false refl lb)
-names_of a b (Some x) (Some y) la lb h e = h e
-
 module _ (at : ℕ → Option Node) (m dim layer x : ℕ) (good : AreLinksGood at m dim) where
   table : IsGoodTable (layers_at at) layer (most_links m layer) (links_at at layer)
   table = table_from at m dim layer good
@@ -67,7 +60,7 @@ module _ (at : ℕ → Option Node) (m dim layer x : ℕ) (good : AreLinksGood a
   former_stands y h = table.stand x y h
 
   pub former_differ : Differ (body_at at) (links_at at layer x)
-  former_differ a b ha hb e = names_of a b (at a) (at b) (live_from_layers at layer a (former_stands a ha)) (live_from_layers at layer b (former_stands b hb)) (good.names a b) e
+  former_differ a b ha hb e = differ_by a b (at a) (at b) (live_from_layers at layer a (former_stands a ha)) (live_from_layers at layer b (former_stands b hb)) (good.names a b) e
 
   module _ (mid : ℕ → Option Node) (r : Relinks at mid layer (detached (links_at at layer) x)) (ids : List ℕ) (same : ids ≡ links_at at layer x) where
     pub mid_alike : dim ≤ 32768 → AreAlike (body_at mid)

@@ -1,12 +1,12 @@
 //! One layer of a removal: the member's links go at both ends, and its former neighbours are paired.
 ghost use Rattle.std.specs.Prelude.{◌≡◌, ◌≢◌, ◌<◌, ◌≤◌, ◌+◌, ℕ, List as Items, [], Some, IfOk, OnOk, All, length};
 ghost use Rattle.vs_graph.specs.Edits.{overwritten};
-ghost use Rattle.vs_graph.specs.Good.{links_at, StandsAt, AreLinksGood};
+ghost use Rattle.vs_graph.specs.Good.{links_at, StandsAt, AreLinksGood, HasGoodLinks};
 ghost use Rattle.vs_graph.specs.Good.{body_at};
 ghost use Rattle.vs_graph.specs.Table.{put};
 ghost use Rattle.vs_graph.specs.GoodTable.{IsGoodTable};
 ghost use Rattle.vs_graph.specs.Good.{layers_at};
-ghost use Rattle.vs_graph.specs.Relinks.{Relinks};
+ghost use Rattle.vs_graph.specs.Relinks.{RelinksBy};
 ghost use Rattle.vs_unlink.specs.declared.Pair.{Pair};
 ghost use Rattle.vs_unlink.specs.Pairs.{detached, paired, IsPairing};
 
@@ -27,7 +27,7 @@ fn clear_links<N: Nodes, L: Ledger>(
     reads: &mut Steps<L>,
 ) -> Result<(), NoMemory>
     requires { layer < layers_at (overwritten edit.old (N.at base.now)) x }
-    ensures { OnOk result (Relinks (overwritten edit.old (N.at base.now)) (overwritten edit.new (N.at base.now)) layer (put (links_at (overwritten edit.old (N.at base.now)) layer) x [])) }
+    ensures { OnOk result (RelinksBy (N.at base.now) edit.old edit.new layer (λ t. put t x [])) }
 {
     let mut own = live_copy(alloc, edit, base, x, reads)?;
     own.links.clear(layer);
@@ -45,7 +45,7 @@ fn detach<N: Nodes, L: Ledger>(
 ) -> Result<List<u32>, NoMemory>
     requires good { (most : ℕ) × IsGoodTable (layers_at (overwritten edit.old (N.at base.now))) layer most (links_at (overwritten edit.old (N.at base.now)) layer) }
     requires stands { layer < layers_at (overwritten edit.old (N.at base.now)) x }
-    ensures links { OnOk result (Relinks (overwritten edit.old (N.at base.now)) (overwritten edit.new (N.at base.now)) layer (detached (links_at (overwritten edit.old (N.at base.now)) layer) x)) }
+    ensures links { OnOk result (RelinksBy (N.at base.now) edit.old edit.new layer (λ t. detached t x)) }
     ensures former { IfOk result (λ former. former ≡ links_at (overwritten edit.old (N.at base.now)) layer x) }
 {
     let former = List::from_slice(alloc, links(live_node(edit, base, x, reads), layer))?;
@@ -66,7 +66,7 @@ fn join_all<N: Nodes, L: Ledger>(
     reads: &mut Steps<L>,
 ) -> Result<(), NoMemory>
     requires { All (λ p. (layer < layers_at (overwritten edit.old (N.at base.now)) p.one) × (layer < layers_at (overwritten edit.old (N.at base.now)) p.other)) added.now }
-    ensures { OnOk result (Relinks (overwritten edit.old (N.at base.now)) (overwritten edit.new (N.at base.now)) layer (paired (links_at (overwritten edit.old (N.at base.now)) layer) added.now)) }
+    ensures { OnOk result (RelinksBy (N.at base.now) edit.old edit.new layer (λ t. paired t added.now)) }
 {
     for pair in added {
         let p = *pair;
@@ -85,11 +85,11 @@ pub(crate) fn unlink_layer<N: Nodes, L: Ledger>(
     layer: u8,
     reads: &mut Steps<L>,
 ) -> Result<List<u32>, NoMemory>
-    requires good { (m : ℕ) × (dim : ℕ) × (dim ≤ 32768) × AreLinksGood (overwritten edit.old (N.at base.now)) m dim }
+    requires good { HasGoodLinks (overwritten edit.old (N.at base.now)) }
     requires stands { StandsAt (overwritten edit.old (N.at base.now)) layer x }
     ensures former { IfOk result (λ former. former ≡ links_at (overwritten edit.old (N.at base.now)) layer x) }
     ensures links { OnOk result ((added : Items Pair) × IsPairing (body_at (overwritten edit.old (N.at base.now))) (detached (links_at (overwritten edit.old (N.at base.now)) layer) x) (links_at (overwritten edit.old (N.at base.now)) layer x) added
-        × Relinks (overwritten edit.old (N.at base.now)) (overwritten edit.new (N.at base.now)) layer (paired (detached (links_at (overwritten edit.old (N.at base.now)) layer) x) added)) }
+        × RelinksBy (N.at base.now) edit.old edit.new layer (λ t. paired (detached t x) added)) }
     ensures good { OnOk result ((m dim : ℕ) → AreLinksGood (overwritten edit.old (N.at base.now)) m dim → AreLinksGood (overwritten edit.new (N.at base.now)) m dim) }
 {
     let former = detach(alloc, edit, base, x, layer, reads)?;

@@ -1,7 +1,7 @@
 //! A member taken out of all its layers. Keeps links good but for those who are listed.
 ghost use Rattle.std.specs.Prelude.{◌≡◌, ◌<◌, ◌≤◌, ℕ, Some, IsSome, IfOk, OnOk, All};
 ghost use Rattle.vs_graph.specs.Edits.{overwritten};
-ghost use Rattle.vs_graph.specs.Good.{links_at, AreLinksGood};
+ghost use Rattle.vs_graph.specs.Good.{links_at, AreLinksGood, HasGoodLinks};
 ghost use Rattle.vs_graph.specs.Good.{body_at};
 ghost use Rattle.vs_unlink.specs.Orphans.{IsLeftAlone, Lists, ListsByNames, KeepsLinkedBut};
 ghost use Rattle.vs_graph.specs.Good.{layers_at};
@@ -24,7 +24,7 @@ fn unlink_below<N: Nodes, L: Ledger>(
     count: u8,
     reads: &mut Steps<L>,
 ) -> Result<(), NoMemory>
-    requires good { (m : ℕ) × (dim : ℕ) × (dim ≤ 32768) × AreLinksGood (overwritten edit.old (N.at base.now)) m dim }
+    requires good { HasGoodLinks (overwritten edit.old (N.at base.now)) }
     requires stands { count ≤ layers_at (overwritten edit.old (N.at base.now)) x }
     ensures { OnOk result (IsOutBelow (overwritten edit.old (N.at base.now)) (overwritten edit.new (N.at base.now)) x count) }
 {
@@ -42,7 +42,7 @@ fn take_out<N: Nodes, L: Ledger>(
     x: u32,
     reads: &mut Steps<L>,
 ) -> Result<Node, NoMemory>
-    requires good { (m : ℕ) × (dim : ℕ) × (dim ≤ 32768) × AreLinksGood (overwritten edit.old (N.at base.now)) m dim }
+    requires good { HasGoodLinks (overwritten edit.old (N.at base.now)) }
     requires live { IsSome (overwritten edit.old (N.at base.now) x) }
     ensures out { OnOk result (IsTakenOut (overwritten edit.old (N.at base.now)) (overwritten edit.new (N.at base.now)) x (layers_at (overwritten edit.old (N.at base.now)) x)) }
     ensures was { IfOk result (λ own. overwritten edit.old (N.at base.now) x ≡ Some own) }
@@ -64,7 +64,7 @@ pub fn unlink<N: Nodes, L: Ledger>(
     x: u32,
     reads: &mut Steps<L>,
 ) -> Result<List<Orphan>, NoMemory>
-    requires good { (m : ℕ) × (dim : ℕ) × (dim ≤ 32768) × AreLinksGood (overwritten edit.old (N.at base.now)) m dim }
+    requires good { HasGoodLinks (overwritten edit.old (N.at base.now)) }
     requires live { IsSome (overwritten edit.old (N.at base.now) x) }
     ensures out { OnOk result (IsTakenOut (overwritten edit.old (N.at base.now)) (overwritten edit.new (N.at base.now)) x (layers_at (overwritten edit.old (N.at base.now)) x)) }
     ensures without { OnOk result (IsWithout (overwritten edit.old (N.at base.now)) (overwritten edit.new (N.at base.now)) x) }

@@ -25,8 +25,8 @@ beam-requires-clause-stands g c =
     let y = c.args.orphan.id in
     let start = c.start_of-start.result in
     let is : IsStart now c.args.entry y start = subst (λ f. IsStart (overwritten c.args.edit.now f) c.args.entry y start) same
-    (c.start_of-start.ensures c.requires.another.0 c.requires.another.1 (another_live base at c.args.edit.now c.args.orphan.layer y same c.requires.another)) in
-    stood at now c.requires.without.0 c.requires.without.1 c.args.orphan.layer start (start_may now c.args.entry c.args.orphan.layer y start is c.requires.top c.requires.stands c.requires.another).1
+    (c.start_of-start.ensures c.requires.can.another.0 c.requires.can.another.1 (another_live base at c.args.edit.now c.args.orphan.layer y same c.requires.can.another)) in
+    stood at now c.requires.can.without.0 c.requires.can.without.1 c.args.orphan.layer start (start_may now c.args.entry c.args.orphan.layer y start is c.requires.can.top c.requires.can.stands c.requires.can.another).1
 
 pub select-requires-clause-good : goal.select-requires-clause-good
 select-requires-clause-good g c =
@@ -50,14 +50,14 @@ select-requires-clause-live g c =
     let start = c.start_of-start.result in
     let f = c.in_ok-search.search in
     let is : IsStart now c.args.entry y start = subst (λ f. IsStart (overwritten c.args.edit.now f) c.args.entry y start) same
-    (c.start_of-start.ensures c.requires.another.0 c.requires.another.1 (another_live base at c.args.edit.now layer y same c.requires.another)) in
-    let may = start_may now c.args.entry layer y start is c.requires.top c.requires.stands c.requires.another in
+    (c.start_of-start.ensures c.requires.can.another.0 c.requires.can.another.1 (another_live base at c.args.edit.now layer y same c.requires.can.another)) in
+    let may = start_may now c.args.entry layer y start is c.requires.can.top c.requires.can.stands c.requires.can.another in
     let beam : IsBeam at layer start c.bits-query.result.now 200 0 everyone f.tried f.expanded f.found = subst (λ n. IsBeam at layer start c.bits-query.result.now n 0 everyone f.tried f.expanded f.found) c.requires.wide
     (c.in_ok-search.ensures.beam everyone c.requires.everyone) in
     let left : c.as_slice-2.result.now ≡ others_of now y f.found =
     c.as_slice-2.ensures ∙ c.in_ok-left.ensures ∙ ap (λ a. others_of (overwritten c.args.edit.now a) y c.as_slice.result.now) same ∙ ap (others_of now y) c.as_slice.ensures in
     live_over (overwritten c.new-unchanged.result base) at c.as_slice-2.result.now (others_of now y f.found) (no_change c.new-unchanged.result base c.new-unchanged.ensures ∙ same) left
-    (left_live at now c.requires.without.0 y layer start s.m s.dim c.bits-query.result.now f.tried f.expanded f.found c.requires.without.1 c.requires.links beam may.0 may.1)
+    (left_live at now c.requires.can.without.0 y layer start s.m s.dim c.bits-query.result.now f.tried f.expanded f.found c.requires.can.without.1 c.requires.can.links beam may.0 may.1)
 
 pub returns : goal.returns
 returns g c =
@@ -72,8 +72,8 @@ returns g c =
     let start = c.start_of-start.result in
     let f = c.in_ok-search.search in
     let is : IsStart now c.args.entry y start = subst (λ f. IsStart (overwritten c.args.edit.now f) c.args.entry y start) same
-    (c.start_of-start.ensures c.requires.another.0 c.requires.another.1 (another_live base at c.args.edit.now layer y same c.requires.another)) in
-    let may = start_may now c.args.entry layer y start is c.requires.top c.requires.stands c.requires.another in
+    (c.start_of-start.ensures c.requires.can.another.0 c.requires.can.another.1 (another_live base at c.args.edit.now layer y same c.requires.can.another)) in
+    let may = start_may now c.args.entry layer y start is c.requires.can.top c.requires.can.stands c.requires.can.another in
     let was : now y ≡ Some c.live_node.result.now = subst (λ a. overwritten c.args.edit.now a y ≡ Some c.live_node.result.now) same c.live_node.ensures.value in
     let query : c.bits-query.result.now ≡ words_at (body_at now) y = c.bits-query.ensures ∙ sym (words_there now y c.live_node.result.now was) in
     let q = words_at (body_at now) y in
@@ -81,8 +81,8 @@ returns g c =
     (subst (λ w. IsBeam at layer start w c.args.ef 0 everyone f.tried f.expanded f.found) query (c.in_ok-search.ensures.beam everyone c.requires.everyone)) in
     let left : c.as_slice-2.result.now ≡ others_of now y f.found =
     c.as_slice-2.ensures ∙ c.in_ok-left.ensures ∙ ap (λ a. others_of (overwritten c.args.edit.now a) y c.as_slice.result.now) same ∙ ap (others_of now y) c.as_slice.ensures in
-    let x = c.requires.without.0 in
-    let gone = c.requires.without.1 in
+    let x = c.requires.can.without.0 in
+    let gone = c.requires.can.without.1 in
     IfOk-weaker c.select.result (λ chosen. chosen ≡ selected (body_at (overwritten c.new-unchanged.result base)) c.m.result c.as_slice-2.result.now) _
     (λ chosen made.
     let are : chosen ≡ selected (body_at at) s.m (others_of now y f.found) =
@@ -95,7 +95,7 @@ returns g c =
       found = f.found;
       beam = beam;
       are = are;
-      may = subst (λ l. AreChosen (layers_at now) layer s.m y l) (sym are) (choice_may at now x y layer start s.m s.dim q f.tried f.expanded f.found gone c.requires.links beam may.0 may.1 (body_at at));
-      some = subst (λ l. 0 < length l) (sym are) (selected_some (body_at at) s.m (others_of now y f.found) (omega (arith, c.nodes-nodes.ensures.good.m_low)) (some_left at now x y layer start s.m s.dim q f.tried f.expanded f.found gone c.requires.links beam may.0 may.1));
+      may = subst (λ l. AreChosen (layers_at now) layer s.m y l) (sym are) (choice_may at now x y layer start s.m s.dim q f.tried f.expanded f.found gone c.requires.can.links beam may.0 may.1 (body_at at));
+      some = subst (λ l. 0 < length l) (sym are) (selected_some (body_at at) s.m (others_of now y f.found) (omega (arith, c.nodes-nodes.ensures.good.m_low)) (some_left at now x y layer start s.m s.dim q f.tried f.expanded f.found gone c.requires.can.links beam may.0 may.1));
     })
     c.select.ensures.chosen

@@ -21,7 +21,7 @@ returns-clause-top g c =
     let at = g.N.Nodes.at c.args.graph.now.nodes in
     let now = overwritten c.args.edit.now at in
     let new = overwritten c.rejoin.new.edit at in
-    on_ok_weaker c.rejoin.result (λ made. entry_on now new c.args.entry (bare_kept now new c.args.orphan.layer _ made.joined) c.requires.top) c.rejoin.ensures.joined
+    on_ok_weaker c.rejoin.result (λ made. entry_on now new c.args.entry (bare_kept now new c.args.orphan.layer _ made.joined) c.requires.can.top) c.rejoin.ensures.joined
 
 pub returns-clause-kept : goal.returns-clause-kept
 returns-clause-kept g c =

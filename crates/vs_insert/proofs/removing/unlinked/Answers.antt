@@ -11,9 +11,11 @@ unlink-requires-clause-good g c =
     let s = c.args.graph.now in
     let same : base ≡ g.N.Nodes.at s.nodes = ap g.N.Nodes.at c.nodes-nodes.ensures.nodes in (
       s.m,
-      s.dim,
-      c.nodes-nodes.ensures.good.dim_high,
-      links_over (overwritten c.new-edit.result base) (g.N.Nodes.at s.nodes) s.m s.m s.dim (no_change c.new-edit.result base c.new-edit.ensures ∙ same) refl c.nodes-nodes.ensures.good.links,
+      (
+        s.dim,
+        c.nodes-nodes.ensures.good.dim_high,
+        links_over (overwritten c.new-edit.result base) (g.N.Nodes.at s.nodes) s.m s.m s.dim (no_change c.new-edit.result base c.new-edit.ensures ∙ same) refl c.nodes-nodes.ensures.good.links,
+      ),
     )
 
 pub returns-clause-unlinked : goal.returns-clause-unlinked

@@ -10,25 +10,18 @@ is_ready-requires g c =
     let same : g.N.Nodes.at c.nodes.result.now ≡ g.N.Nodes.at c.args.graph.now.nodes = ap g.N.Nodes.at c.nodes.ensures.nodes in
     (c.requires.without.0, subst (λ f. IsWithout f (overwritten c.args.edit.now f) c.requires.without.0) (sym same) c.requires.without.1)
 
-pub relink-requires-clause-top : goal.relink-requires-clause-top
-relink-requires-clause-top g c =
+pub relink-requires-clause-can : goal.relink-requires-clause-can
+relink-requires-clause-can g c =
     let same : g.N.Nodes.at c.nodes.result.now ≡ g.N.Nodes.at c.args.graph.now.nodes = ap g.N.Nodes.at c.nodes.ensures.nodes in
-    (subst (λ f. IsReady (overwritten c.args.edit.now f) c.args.entry c.args.orphan.layer c.args.orphan.id) same (c.is_ready.ensures c.if-not-is_ready.false)).top
-
-pub relink-requires-clause-stands : goal.relink-requires-clause-stands
-relink-requires-clause-stands g c =
-    let same : g.N.Nodes.at c.nodes.result.now ≡ g.N.Nodes.at c.args.graph.now.nodes = ap g.N.Nodes.at c.nodes.ensures.nodes in
-    (subst (λ f. IsReady (overwritten c.args.edit.now f) c.args.entry c.args.orphan.layer c.args.orphan.id) same (c.is_ready.ensures c.if-not-is_ready.false)).alone.stands
-
-pub relink-requires-clause-free : goal.relink-requires-clause-free
-relink-requires-clause-free g c =
-    let same : g.N.Nodes.at c.nodes.result.now ≡ g.N.Nodes.at c.args.graph.now.nodes = ap g.N.Nodes.at c.nodes.ensures.nodes in
-    (subst (λ f. IsReady (overwritten c.args.edit.now f) c.args.entry c.args.orphan.layer c.args.orphan.id) same (c.is_ready.ensures c.if-not-is_ready.false)).alone.free
-
-pub relink-requires-clause-another : goal.relink-requires-clause-another
-relink-requires-clause-another g c =
-    let same : g.N.Nodes.at c.nodes.result.now ≡ g.N.Nodes.at c.args.graph.now.nodes = ap g.N.Nodes.at c.nodes.ensures.nodes in
-    (subst (λ f. IsReady (overwritten c.args.edit.now f) c.args.entry c.args.orphan.layer c.args.orphan.id) same (c.is_ready.ensures c.if-not-is_ready.false)).alone.another
+    let ready = subst (λ f. IsReady (overwritten c.args.edit.now f) c.args.entry c.args.orphan.layer c.args.orphan.id) same (c.is_ready.ensures c.if-not-is_ready.false) in
+    record {
+      without = c.requires.without;
+      links = c.requires.links;
+      top = ready.top;
+      stands = ready.alone.stands;
+      free = ready.alone.free;
+      another = ready.alone.another;
+    }
 
 pub returns-clause-without : goal.returns-clause-without
 returns-clause-without g c =

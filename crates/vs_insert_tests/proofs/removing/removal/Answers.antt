@@ -2,9 +2,9 @@ use Rattle.std.proofs.Common.{◌≡◌, ap, ◌∙◌, refl, subst}
 use Rattle.vs_graph.specs.Edits.{overwritten}
 use Rattle.vs_graph.specs.Good.{AreLinksGood}
 use Rattle.vs_graph.proofs.Renaming.{no_change}
+use Rattle.vs_graph.proofs.NodeLaws.{some_node}
 use Rattle.vs_unlink.specs.Unlinked.{IsWithout}
 use Rattle.vs_insert.proofs.Choices.{links_over}
-use Rattle.vs_unlink.proofs.Remaining.{some_node}
 use Rattle.vs_insert_tests.proofs.Without.{without_one, good_without}
 use Rattle.vs_insert_tests.proofs.removing.removal.Goals as goal
 
@@ -14,9 +14,11 @@ unlink-requires-clause-good g c =
     let s = c.args.graph.now in
     let same : base ≡ g.N.Nodes.at s.nodes = ap g.N.Nodes.at c.nodes-nodes.ensures.nodes in (
       s.m,
-      s.dim,
-      c.nodes-nodes.ensures.good.dim_high,
-      links_over (overwritten c.new-edit.result base) (g.N.Nodes.at s.nodes) s.m s.m s.dim (no_change c.new-edit.result base c.new-edit.ensures ∙ same) refl c.nodes-nodes.ensures.good.links,
+      (
+        s.dim,
+        c.nodes-nodes.ensures.good.dim_high,
+        links_over (overwritten c.new-edit.result base) (g.N.Nodes.at s.nodes) s.m s.m s.dim (no_change c.new-edit.result base c.new-edit.ensures ∙ same) refl c.nodes-nodes.ensures.good.links,
+      ),
     )
 
 pub unlink-requires-clause-live : goal.unlink-requires-clause-live

@@ -4,8 +4,9 @@ use Rattle.std.proofs.lemmas.Result.{on_ok_weaker}
 use Rattle.vs_graph.specs.Edits.{overwritten}
 use Rattle.vs_graph.specs.Good.{links_at, body_at}
 use Rattle.vs_graph.specs.Relinks.{Relinks}
+use Rattle.vs_graph.proofs.Relinking.{stands_now}
 use Rattle.vs_link.specs.Linked.{offered}
-use Rattle.vs_link.proofs.Turns.{good_turn, apart_turn, stands_now, accepted_turn, forced_turn, alone_taken, alone_refused}
+use Rattle.vs_link.proofs.Turns.{good_turn, apart_turn, accepted_turn, forced_turn, alone_taken, alone_refused}
 use Rattle.vs_link.proofs.Targets.{target_may}
 use Rattle.vs_link.proofs.layer.link_at.Goals as goal
 use Rattle.vs_link.proofs.layer.link_at.Goals.{then-branch, else-branch}

@@ -9,7 +9,8 @@ use Rattle.vs_link.specs.Picks.{farthest, nearest}
 use Rattle.vs_graph.specs.Relinks.{Relinks}
 use Rattle.vs_link.specs.Linked.{has_room}
 use Rattle.vs_graph.proofs.Relinking.{links_there, words_there}
-use Rattle.vs_link.proofs.Picked.{neighbours_live, live_from_layers, farthest_in, nearest_in, filter_in, forced_to_roomy}
+use Rattle.vs_graph.proofs.NodeLaws.{live_from_layers}
+use Rattle.vs_link.proofs.Picked.{neighbours_live, farthest_in, nearest_in, filter_in, forced_to_roomy}
 use Rattle.vs_link.proofs.offers.force.Goals as goal
 
 pub survey-found-requires-clause-live : goal.survey-found-requires-clause-live

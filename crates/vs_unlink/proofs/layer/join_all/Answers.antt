@@ -1,6 +1,6 @@
 use Rattle.std.proofs.Common.{arith}
 use Rattle.vs_graph.specs.Edits.{overwritten}
-use Rattle.vs_unlink.proofs.Standing.{stands_now}
+use Rattle.vs_graph.proofs.Relinking.{stands_now}
 use Rattle.vs_unlink.proofs.Taking.{joined_more}
 use Rattle.vs_unlink.proofs.layer.join_all.Goals as goal
 

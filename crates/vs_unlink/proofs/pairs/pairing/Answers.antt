@@ -6,9 +6,10 @@ use Rattle.std.proofs.lemmas.Map.Keys.{IsDistinct-IsPermutation}
 use Rattle.std.proofs.lemmas.Result.{IfOk-weaker}
 use Rattle.vs_graph.specs.Edits.{overwritten}
 use Rattle.vs_graph.specs.Good.{links_at, body_at}
+use Rattle.vs_graph.proofs.CommonLaws.{nat_eq_flips}
 use Rattle.vs_unlink.specs.Candidates.{pair_at, IsCandidate, IsWithin, HasPairsBelow}
 use Rattle.vs_unlink.specs.Pairs.{matched, IsPairing}
-use Rattle.vs_unlink.proofs.Ranked.{eqb_flips, within_from, pairing_from}
+use Rattle.vs_unlink.proofs.Ranked.{within_from, pairing_from}
 use Rattle.vs_unlink.proofs.pairs.pairing.Goals as goal
 
 pub candidates-requires-clause-live : goal.candidates-requires-clause-live
@@ -17,7 +18,7 @@ candidates-requires-clause-live g c =
     subst (All (λ id. IsSome (at id))) (sym c.as_slice.ensures) (All-permutation (λ id. IsSome (at id)) c.args.ids.now c.in_ok-ranked.ranked c.in_ok-ranked.ensures.same c.requires.live)
 
 pub matching-requires-clause-once : goal.matching-requires-clause-once
-matching-requires-clause-once g c = subst (IsDistinct nat_eq) (sym c.as_slice-2.ensures) (IsDistinct-IsPermutation nat_eq eqb_flips c.args.ids.now c.in_ok-ranked.ranked c.in_ok-ranked.ensures.same c.requires.once)
+matching-requires-clause-once g c = subst (IsDistinct nat_eq) (sym c.as_slice-2.ensures) (IsDistinct-IsPermutation nat_eq nat_eq_flips c.args.ids.now c.in_ok-ranked.ranked c.in_ok-ranked.ensures.same c.requires.once)
 
 pub matching-requires-clause-within : goal.matching-requires-clause-within
 matching-requires-clause-within g c =

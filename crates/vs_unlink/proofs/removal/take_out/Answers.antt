@@ -11,4 +11,4 @@ returns-clause-out g c =
     let at = overwritten c.args.edit.now base in
     let f = freed base c.unlink_below.new.edit c.free.new.self c.args.x c.in_ok-free.ensures.ok in
     let same : c.len-count.result ≡ layers_at at c.args.x = c.len-count.ensures ∙ sym (ap (λ o. option_map_or (λ node. length node.links) o 0) c.in_ok-own.ensures.value) in
-    out_gone at (overwritten c.unlink_below.new.edit base) (overwritten c.free.new.self base) c.args.x c.len-count.result c.requires.good.0 c.requires.good.1 c.requires.good.3 same f.0 f.1 c.in_ok-unlink_below.ensures
+    out_gone at (overwritten c.unlink_below.new.edit base) (overwritten c.free.new.self base) c.args.x c.len-count.result c.requires.good.0 c.requires.good.1.0 c.requires.good.1.2 same f.0 f.1 c.in_ok-unlink_below.ensures

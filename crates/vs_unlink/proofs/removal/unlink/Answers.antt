@@ -20,7 +20,7 @@ use Rattle.vs_unlink.proofs.removal.unlink.Goals as goal
 pub orphans-requires : goal.orphans-requires
 orphans-requires g c =
     let base = g.N.Nodes.at c.args.base.now in
-    former_live (overwritten c.args.edit.now base) (overwritten c.take_out.new.edit base) c.args.x c.requires.good.0 c.requires.good.1 c.in_ok-own.own c.in_ok-own.ensures.was c.requires.good.3 c.in_ok-own.ensures.out
+    former_live (overwritten c.args.edit.now base) (overwritten c.take_out.new.edit base) c.args.x c.requires.good.0 c.requires.good.1.0 c.in_ok-own.own c.in_ok-own.ensures.was c.requires.good.1.2 c.in_ok-own.ensures.out
 
 pub returns-clause-orphans : goal.returns-clause-orphans
 returns-clause-orphans g c =
@@ -56,7 +56,7 @@ returns-clause-kept g c =
     let at = overwritten c.args.edit.now base in
     let new = overwritten c.take_out.new.edit base in
     IfOk-weaker c.orphans.result (λ all. Lists (body_at new) (links_at new) (λ l. links_at at l c.args.x) (layers_at at c.args.x) 0 all) (KeepsLinkedBut at new c.args.x)
-    (λ all h. kept_but at new c.args.x c.requires.good.0 c.requires.good.1 all c.requires.good.3 c.in_ok-own.ensures.out h) (returns-clause-orphans g c)
+    (λ all h. kept_but at new c.args.x c.requires.good.0 c.requires.good.1.0 all c.requires.good.1.2 c.in_ok-own.ensures.out h) (returns-clause-orphans g c)
 
 pub returns-clause-without : goal.returns-clause-without
 returns-clause-without g c =
@@ -71,4 +71,4 @@ returns-clause-left g c =
     let at = overwritten c.args.edit.now base in
     let new = overwritten c.take_out.new.edit base in
     IfOk-weaker c.orphans.result (λ all. Lists (body_at new) (links_at new) (λ l. links_at at l c.args.x) (layers_at at c.args.x) 0 all) (λ all. All (IsLeftAlone new) all)
-    (λ all h. orphans_left at new c.requires.good.0 c.requires.good.1 c.args.x all c.requires.good.3 (without_out at new c.args.x (layers_at at c.args.x) c.requires.live c.in_ok-own.ensures.out) h) (returns-clause-orphans g c)
+    (λ all h. orphans_left at new c.requires.good.0 c.requires.good.1.0 c.args.x all c.requires.good.1.2 (without_out at new c.args.x (layers_at at c.args.x) c.requires.live c.in_ok-own.ensures.out) h) (returns-clause-orphans g c)
