@@ -1,4 +1,6 @@
-//! Drawn words: a connection's stream of random numbers.
+//! Random words: the stream of a seed and a number, drawn in order.
+#![tactic(auto)]
+
 ghost use Rattle.std.specs.Prelude.{◌≡◌, IsOk, IfOk, OnErr};
 ghost use Rattle.vs_session_defs.specs.Words.{generator as generator_of, drawn, after_draws};
 
