@@ -1,4 +1,3 @@
-pub mod Drawn
 pub mod Calls
 pub mod Serving
 pub mod Sessions

@@ -3,7 +3,6 @@
 
 mod end;
 mod handler;
-mod random_words;
 mod serve;
 #[cfg(test)]
 mod tests;
@@ -11,6 +10,6 @@ mod write;
 
 pub use end::SessionEnd;
 pub use handler::{Handler, Replied};
-pub use random_words::{draw, generator};
 pub use serve::serve_by;
+pub use vs_random_words::{draw, generator};
 pub use write::write_all;

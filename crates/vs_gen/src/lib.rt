@@ -11,7 +11,7 @@ use itoa::Buffer;
 use rand_pcg::Lcg64Xsh32;
 use std::alloc::Global;
 use std::marker::Model;
-use vs_draws::{draw, generator};
+use vs_random_words::{draw, generator};
 use vs_outside::{List, NoMemory, Text};
 
 #[cfg(test)]

@@ -1,4 +1,3 @@
 pub mod Seats
 pub mod Name
 pub mod Work
-pub mod Knower

@@ -1,4 +1,4 @@
-//! Drawn words: a connection's stream of random numbers. The same seed and stream give the same words, and each word is drawn once, in order.
+//! Random words: the stream of a seed and a number, drawn in order.
 #![tactic(auto)]
 
 ghost use Rattle.std.specs.Prelude.{◌≡◌, IsOk, IfOk, OnErr};

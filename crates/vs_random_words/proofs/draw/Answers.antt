@@ -2,8 +2,8 @@ use Rattle.std.proofs.Common.{◌≡◌, ℕ, suc, ◌+◌, ◌≤◌, List, [],
 use Rattle.rand_pcg.specs.Lcg.{Lcg}
 use Rattle.rand_pcg.specs.Pcg.{pcg32}
 use Rattle.vs_session_defs.specs.Words.{drawn, after_draws}
-use Rattle.vs_connection.proofs.Drawn.{drawn_push, after_push}
-use Rattle.vs_connection.proofs.random_words.draw.Goals as goal
+use Rattle.vs_random_words.proofs.Drawn.{drawn_push, after_push}
+use Rattle.vs_random_words.proofs.draw.Goals as goal
 
 pub loop-preserved : goal.loop-preserved
 loop-preserved c =

@@ -1,0 +1,2 @@
+pub mod Knower
+pub mod Task
