@@ -1,5 +1,4 @@
 pub mod Drawn
-pub mod Calls
 pub mod Serving
 pub mod Sessions
 pub mod Ends
