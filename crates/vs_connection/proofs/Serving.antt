@@ -1,5 +1,5 @@
 -- Messages served in turn: one more at the end.
-use Rattle.std.proofs.Common.{◌≡◌, ◌≢◌, ◌<◌, ℕ, length, All, arith, Bool, List, [], ◌∷◌, ◌++◌, refl, sym, ap, subst, ◌∙◌, append_assoc, append-nil, true, false}
+use Rattle.std.proofs.Common.{◌≡◌, ◌≢◌, ℕ, All, arith, Bool, List, [], ◌∷◌, ◌++◌, refl, sym, ap, subst, ◌∙◌, append_assoc, append-nil, true, false}
 use Rattle.std.specs.Prelude.{MatchBool, IsTrue, zip}
 use Rattle.std.proofs.lemmas.List.Elements.{All-tail, All-cons}
 use Rattle.rand_pcg.specs.Lcg.{Lcg}

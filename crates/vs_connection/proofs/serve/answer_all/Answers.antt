@@ -1,4 +1,4 @@
-use Rattle.std.proofs.Common.{◌<◌, ◌≢◌, List, [], ◌∷◌, ◌++◌, sym, subst, ◌∙◌, append_assoc, append-nil, arith, length, true}
+use Rattle.std.proofs.Common.{◌<◌, ◌≢◌, List, [], ◌∷◌, ◌++◌, sym, subst, ◌∙◌, append_assoc, append-nil, length, true}
 use Rattle.vs_defs.specs.Bytes.{Bytes}
 use Rattle.vs_defs.specs.Stream.{Message}
 use Rattle.vs_defs.specs.Reply.{reply, OutOfMemory}

@@ -1,4 +1,4 @@
-use Rattle.std.proofs.Common.{◌≡◌, ◌≤◌, ℕ, List, ◌++◌}
+use Rattle.std.proofs.Common.{◌≡◌, ℕ, List, ◌++◌}
 use Rattle.rand_pcg.specs.Lcg.{Lcg}
 use Rattle.vs_defs.specs.Bytes.{Bytes}
 use Rattle.vs_defs.specs.Stream.{Message}
