@@ -1,4 +1,5 @@
 pub mod Calls
+pub mod Drawn
 pub mod Serving
 pub mod Sessions
 pub mod Ends

@@ -1,11 +1,11 @@
 -- A message of the one word PING or QUIT: what it asks for, and that it is answered.
-use Rattle.std.proofs.Common.{◌≡◌, ◌≢◌, Bool, true, false, cond, ◌||◌, List, [], ◌∷◌, drop, length, Option, Some, None, Result, Ok, Err, codes, refl, sym, inl, inr, ◌⊎◌, ◌∙◌}
+use Rattle.std.proofs.Common.{◌≡◌, Bool, true, false, cond, ◌||◌, [], ◌∷◌, drop, length, Some, None, Result, Ok, codes, refl, inl, inr, ◌⊎◌}
 use Rattle.std.specs.Prelude.{IsTrue}
 use Rattle.vs_defs.specs.Bytes.{Bytes, is_word}
 use Rattle.vs_defs.specs.Stream.{Message}
 use Rattle.vs_defs.specs.Request.{Request, Refusal}
 use Rattle.vs_defs.specs.Request as request
-use Rattle.vs_defs.specs.Read.{Command, Ping, Quit, commands, named, read_known}
+use Rattle.vs_defs.specs.Read.{Ping, Quit, commands, named, read_known}
 use Rattle.vs_defs.specs.Stages.{is_plain, if_built}
 use Rattle.vs_session_defs.specs.Session.{is_ping_or_quit}
 use Rattle.vs_connection.specs.Stage.{read}

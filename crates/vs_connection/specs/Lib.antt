@@ -1,8 +1,6 @@
 pub mod Point
 pub mod Stage
 pub mod Written
-pub mod Own
-pub mod Stored
 pub mod Served
 pub mod Connection
 pub mod SoFar

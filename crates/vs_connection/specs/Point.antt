@@ -1,12 +1,6 @@
--- Where a handler is between two messages: the history of its own changes so far, and the generator of its next words.
-use Rattle.std.specs.Prelude.{[]}
+-- Where a handler is between two messages: what is known of the history, and the generator of its next words.
 use Rattle.rand_pcg.specs.Lcg.{Lcg}
-use Rattle.vs_defs.specs.PlainMachine.{PlainHistory}
 
-pub record Point : Type 0 where
-  pub history : PlainHistory
+pub record Point (H : Type 0) : Type 0 where
+  pub history : H
   pub generator : Lcg
-
--- before the first change
-abbrev pub fresh : Lcg → Point
-fresh g = record { history = []; generator = g }

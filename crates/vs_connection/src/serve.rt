@@ -1,15 +1,13 @@
 //! A connection, from its first byte to its end.
-ghost use Rattle.std.specs.Prelude.{◌≡◌, ◌≢◌, ◌<◌, ◌++◌, true, false, ◌⊎◌, ◌↔◌, List, Some, IfSome, IfOk, length, vec_len};
+ghost use Rattle.std.specs.Prelude.{◌≡◌, ◌≢◌, ◌<◌, ◌++◌, true, false, ◌⊎◌, ◌↔◌, ℕ, List, Some, IfSome, IfOk, length, vec_len};
 ghost use Rattle.rand_pcg.specs.Lcg.{Lcg};
 ghost use Rattle.vs_defs.specs.Bytes.{Bytes};
 ghost use Rattle.vs_defs.specs.Stream.{Message};
 ghost use Rattle.vs_defs.specs.Reply.{Outcome, fault_line as fault_line_of};
-ghost use Rattle.vs_defs.specs.PlainMachine.{PlainHistory};
 ghost use Rattle.vs_outside.specs.Known.{Adds, in_front, NothingLeft};
 ghost use Rattle.vs_resp.specs.Stands.{Stands, failure, bytes_taken, fault_of};
 ghost use Rattle.vs_connection.specs.Written.{WrittenOf};
 ghost use Rattle.vs_connection.specs.Point.{Point};
-ghost use Rattle.vs_connection.specs.Own.{IsOwn};
 ghost use Rattle.vs_connection.specs.Connection.{EndsAt};
 ghost use Rattle.vs_connection.specs.SoFar.{SoFar, AllAnswered, HasGiven};
 
@@ -29,9 +27,10 @@ fn answer_all<H: Handler, K: Sink>(
 ) -> Option<SessionEnd>
     requires given { HasGiven decoder.old }
     ensures given { HasGiven decoder.new }
-    ensures session { (start : Point) (input : Bytes) (given : List Message) (outcomes : List Outcome) (output : Bytes) (h : PlainHistory) (g : Lcg) →
-        SoFar decoder.old (H.after handler.old) start input given outcomes output h g →
-        (more : Bytes) × Adds (K.written sink.old) more (K.written sink.new) × AllAnswered result decoder.new (H.after handler.new) start input (output ++ more) }
+    ensures session { (author : ℕ) (start : Point H.Known) (input : Bytes) (given : List Message) (outcomes : List Outcome) (output : Bytes) (h : H.Known) (g : Lcg) →
+        SoFar H.call author decoder.old (H.after handler.old author) start input given outcomes output h g →
+        (more : Bytes) × Adds (K.written sink.old) more (K.written sink.new)
+        × AllAnswered H.call author result decoder.new (H.after handler.new author) start input (output ++ more) }
     ensures failure { failure decoder.new ≡ failure decoder.old }
     ensures taken { bytes_taken decoder.new ≡ bytes_taken decoder.old }
     ensures ends { IfSome result (λ end. (end ≡ SessionEnd.Quit) ⊎ (end ≡ SessionEnd.WriteFault)) }
@@ -70,9 +69,9 @@ fn serve_with<H: Handler, S: Source, K: Sink>(
 ) -> SessionEnd
     requires some { 0 < length buffer.old }
     requires few { length buffer.old < 65536 }
-    ensures session { (start : Point) → H.after handler.old start.history start.generator → IsOwn start.history
+    ensures session { (author : ℕ) (start : Point H.Known) → H.after handler.old author start.history start.generator
         → (input : Bytes) × (output : Bytes) × (S.left source.old ≡ in_front input (S.left source.new))
-        × Adds (K.written sink.old) output (K.written sink.new) × EndsAt (H.after handler.new) result start input output }
+        × Adds (K.written sink.old) output (K.written sink.new) × EndsAt H.call author (H.after handler.new author) result start input output }
     ensures end { (result ≡ SessionEnd.Ended) ⊎ (result ≡ SessionEnd.CutShort) → NothingLeft (S.left source.new) }
     ensures read_fault { result ≡ SessionEnd.ReadFault → S.faults source.old < S.faults source.new }
     ensures write_fault { result ≡ SessionEnd.WriteFault → K.faults sink.old < K.faults sink.new }
@@ -119,8 +118,8 @@ fn make_room(alloc: Global, size: usize) -> Result<Vec<u8>, NoMemory>
     vec![in alloc; 0u8; size]
 }
 
-/// Serves one connection by this handler, from wherever it is in its own history to where the connection leaves it. The first failed
-/// read or write ends the connection.
+/// Serves one connection by this handler, from wherever it is in the history to where the connection leaves it. The changes are those of
+/// the author that it serves; others may lengthen the history between two messages. The first failed read or write ends the connection.
 ///
 /// No clause says when it reads: it reads no more before each message that it has whole is answered, the replies written whole and in
 /// order, and at most 16,384 bytes at once.
@@ -130,9 +129,9 @@ pub fn serve_by<H: Handler, S: Source, K: Sink>(
     source: &mut S,
     sink: &mut K,
 ) -> SessionEnd
-    ensures session { (start : Point) → H.after handler.old start.history start.generator → IsOwn start.history
+    ensures session { (author : ℕ) (start : Point H.Known) → H.after handler.old author start.history start.generator
         → (input : Bytes) × (output : Bytes) × (S.left source.old ≡ in_front input (S.left source.new))
-        × Adds (K.written sink.old) output (K.written sink.new) × EndsAt (H.after handler.new) result start input output }
+        × Adds (K.written sink.old) output (K.written sink.new) × EndsAt H.call author (H.after handler.new author) result start input output }
     ensures end { (result ≡ SessionEnd.Ended) ⊎ (result ≡ SessionEnd.CutShort) → NothingLeft (S.left source.new) }
     ensures read_fault { (result ≡ SessionEnd.ReadFault) ↔ (S.faults source.old < S.faults source.new) }
     ensures write_fault { (result ≡ SessionEnd.WriteFault) ↔ (K.faults sink.old < K.faults sink.new) }

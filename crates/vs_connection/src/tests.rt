@@ -3,6 +3,8 @@
 ghost use Rattle.std.specs.Prelude.{◌≡◌, ◌≤◌, ◌∷◌, [], true, false};
 ghost use Rattle.std.specs.Str.{str_to_ascii_lowercase};
 ghost use Rattle.vs_defs.specs.Bytes.{Bytes, is_word};
+ghost use Rattle.vs_defs.specs.Store.{usual_limits};
+ghost use Rattle.vs_defs.specs.PlainMachine.{PlainHistory, PlainLegal, PlainCall};
 
 use crate::write::write_all;
 use crate::{Handler, Replied, SessionEnd, serve_by};
@@ -33,7 +35,11 @@ fn is_only(message: &[Text], name: &[u8]) -> bool
 }
 
 impl Handler for Answering {
-    ghost after = { λ s h g. Unit {0} };
+    ghost Known = { PlainHistory };
+
+    ghost call = { PlainCall usual_limits };
+
+    ghost after = { λ s k h g. PlainLegal usual_limits h };
 
     fn handle<K: Sink>(&mut self, message: &[Text], sink: &mut K) -> Replied {
         if is_only(message, b"ping") {

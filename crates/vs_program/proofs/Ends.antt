@@ -6,9 +6,9 @@ use Rattle.vs_defs.specs.ProgramWords.Job.{Script}
 use Rattle.vs_session_defs.specs.Words.{generator}
 use Rattle.vs_outside.proofs.KnownBytes.{Adds-none, in_front-none}
 use Rattle.vs_connection.specs.Written.{WrittenOf}
-use Rattle.vs_connection.specs.Point.{fresh}
 use Rattle.vs_connection.specs.declared.end.SessionEnd.TheVariants as ends
 use Rattle.vs_connection.proofs.Ends.{ends_at_once}
+use Rattle.vs_session.specs.Alone.{IsOwn, fresh}
 use Rattle.vs_args.specs.Words.{job_named, are_plain}
 use Rattle.vs_program.specs.declared.status.Status.TheVariants.{NoMemory}
 use Rattle.vs_program.specs.Jobs.{Does, ServesAlone, Refuses, bad_words}
@@ -27,7 +27,7 @@ serves_none seed left written = record {
   status_is = refl;
   taken = in_front-none left;
   put = Adds-none written;
-  ends = ends_at_once (λ t h. Unit {0}) (fresh (generator seed 0)) tt (record { legal = tt; by_one = refl });
+  ends = ends_at_once (λ h g. IsOwn 0 h) (fresh (generator seed 0)) (record { legal = tt; by_one = refl });
   nothing = λ at_end. elim at_end [ inl e ↦ cc | inr e ↦ cc ];
 }
 

@@ -7,9 +7,9 @@ use Rattle.vs_defs.specs.ProgramWords.{Job}
 use Rattle.vs_defs.specs.ProgramWords.Job.{Script, Schedule, Generate, Serve}
 use Rattle.vs_session_defs.specs.Words.{generator}
 use Rattle.vs_outside.specs.Known.{Adds, in_front, NothingLeft}
-use Rattle.vs_connection.specs.Connection.{EndsWith}
 use Rattle.vs_connection.specs.declared.end.SessionEnd.{SessionEnd}
 use Rattle.vs_connection.specs.declared.end.SessionEnd.TheVariants.{Ended, CutShort}
+use Rattle.vs_session.specs.Alone.{EndsWith}
 use Rattle.vs_program.specs.declared.status.Status.{Status}
 use Rattle.vs_program.specs.declared.status.Status.TheVariants.{BadWords}
 use Rattle.vs_program.specs.Status.{status_of}

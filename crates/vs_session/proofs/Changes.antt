@@ -1,10 +1,13 @@
--- A change is answered by a number; so an answer with a long reply leaves the store as it was.
-use Rattle.std.proofs.Common.{◌≡◌, ℕ, ℤ, pos, inl, inr, List, Option, Some, None, Result, Ok, Err, refl, ◌∙◌}
+-- A change is answered by a number; so an answer with a long reply leaves the store as it was. A request that needs no memory has a short one.
+use Rattle.std.proofs.Common.{◌≡◌, ◌≢◌, ℕ, ℤ, pos, inl, inr, true, List, length, Option, Some, None, Result, Ok, Err, refl, sym, subst, ◌∙◌}
 use Rattle.std.specs.Prelude.{count_by}
 use Rattle.vs_defs.specs.Bytes.{Bytes, listed}
 use Rattle.vs_defs.specs.Reply.{reply}
 use Rattle.vs_defs.specs.Request as request
 use Rattle.vs_defs.specs.Store.{PlainStore, Contents, Member, set_of, member_of}
+use Rattle.vs_defs.specs.Memory.{needs_no_memory}
+use Rattle.vs_defs.specs.Refuse.{has_key, has_member}
+use Rattle.vs_defs.specs.PlainAnswer.{plain_answer, at_set, truth_number}
 use Rattle.vs_defs.specs.PlainStep.{changed, added, added_to, number_of_change, drawn_level}
 use Rattle.vs_defs.specs.PlainMachine.{PlainDoes, PlainChanges}
 use Rattle.vs_command.specs.declared.answer.Answer.{Answer}
@@ -43,24 +46,30 @@ changed_number s (request.Vgetattr key name) words = (pos 1, refl)
 changed_number s (request.Vrandmember key n) words = (pos 1, refl)
 changed_number s (request.Vismember key name) words = (pos 1, refl)
 
--- an answer with a long reply is no number
-long_is_none : (a : Answer) → short_of (Ok a) ≡ None → IsNumber (answer_of a) → ⊥
+-- an answer with a long reply is none of these
+abbrev IsBrief : request.Answer → Type 0
+IsBrief (request.Int n) = Unit {0}
+IsBrief request.Pong = Unit {0}
+IsBrief request.Bye = Unit {0}
+IsBrief a = ⊥
+
+long_is_none : (a : Answer) → short_of (Ok a) ≡ None → IsBrief (answer_of a) → ⊥
 long_is_none (Int n) e i = absurd (cc)
 long_is_none Pong e i = absurd (cc)
 long_is_none Bye e i = absurd (cc)
-long_is_none (Bulk text) e (n, is) = absurd (cc)
-long_is_none NullText e i = absurd (cc)
-long_is_none NullList e i = absurd (cc)
-long_is_none (Names names) e (n, is) = absurd (cc)
-long_is_none (Signs signs) e (n, is) = absurd (cc)
-long_is_none (Hits dim scores attrs hits) e (n, is) = absurd (cc)
-long_is_none (Layers dim scores layers) e (n, is) = absurd (cc)
-long_is_none (Informed info) e (n, is) = absurd (cc)
+long_is_none (Bulk text) e i = absurd i
+long_is_none NullText e i = absurd i
+long_is_none NullList e i = absurd i
+long_is_none (Names names) e i = absurd i
+long_is_none (Signs signs) e i = absurd i
+long_is_none (Hits dim scores attrs hits) e i = absurd i
+long_is_none (Layers dim scores layers) e i = absurd i
+long_is_none (Informed info) e i = absurd i
 
-pub number_is_short : (old : PlainStore) (r : request.Request) (words : List ℕ) (new : PlainStore) (a : Answer) → PlainChanges old r words (answer_of a) new → short_of (Ok a) ≡ None → ⊥
+number_is_short : (old : PlainStore) (r : request.Request) (words : List ℕ) (new : PlainStore) (a : Answer) → PlainChanges old r words (answer_of a) new → short_of (Ok a) ≡ None → ⊥
 number_is_short old r words new a c long =
     let n : IsNumber (changed old r words).1 = changed_number old r words in
-    long_is_none a long (n.0, c.step.answers ∙ n.1)
+    long_is_none a long (subst IsBrief (sym (c.step.answers ∙ n.1)) tt)
 
 -- so an answer that memory is refused for may be replaced
 pub long_changes_nothing : (old new : PlainStore) (r : request.Request) (words : List ℕ) (result : Result Answer Refusal) →
@@ -68,6 +77,42 @@ pub long_changes_nothing : (old new : PlainStore) (r : request.Request) (words :
 long_changes_nothing old new r words (Ok a) (inl c) long = absurd (number_is_short old r words new a c long)
 long_changes_nothing old new r words (Ok a) (inr (same, answers)) long = same
 long_changes_nothing old new r words (Err e) does long = absurd (cc)
+
+-- ---- a request that needs no memory has a short reply
+
+brief_some : (a b : request.Answer) → Some b ≡ Some a → IsBrief b → IsBrief a
+brief_some a b e brief = let same : b ≡ a = cc in subst IsBrief same brief
+
+brief_at : (x : Option Contents) (f : Contents → ℤ) → IsBrief (at_set x (request.Int (pos 0)) (λ y. request.Int (f y)))
+brief_at None f = tt
+brief_at (Some x) f = tt
+
+brief_answer : (s : PlainStore) (r : request.Request) (words : List ℕ) (a : request.Answer) → needs_no_memory r ≡ true → plain_answer s r words ≡ Some a → IsBrief a
+brief_answer s (request.Ping None) words a none is = brief_some a request.Pong is tt
+brief_answer s (request.Ping (Some text)) words a none is = absurd (cc)
+brief_answer s request.Quit words a none is = brief_some a request.Bye is tt
+brief_answer s (request.Exists keys) words a none is = brief_some a (request.Int (pos (count_by (has_key s) keys))) is tt
+brief_answer s (request.Vcard key) words a none is =
+    brief_some a (at_set (set_of key s) (request.Int (pos 0)) (λ x. request.Int (pos (length x.members)))) is (brief_at (set_of key s) (λ x. pos (length x.members)))
+brief_answer s (request.Vdim key) words a none is =
+    brief_some a (at_set (set_of key s) (request.Int (pos 0)) (λ x. request.Int (pos x.dim))) is (brief_at (set_of key s) (λ x. pos x.dim))
+brief_answer s (request.Vismember key name) words a none is = brief_some a (request.Int (truth_number (has_member s key name))) is tt
+brief_answer s (request.Del keys) words a none is = absurd (cc)
+brief_answer s (request.Vadd add) words a none is = absurd (cc)
+brief_answer s (request.Vrem key name) words a none is = absurd (cc)
+brief_answer s (request.Vsim search) words a none is = absurd (cc)
+brief_answer s (request.Vemb key name) words a none is = absurd (cc)
+brief_answer s (request.Vlinks key name scores) words a none is = absurd (cc)
+brief_answer s (request.Vinfo key) words a none is = absurd (cc)
+brief_answer s (request.Vgetattr key name) words a none is = absurd (cc)
+brief_answer s (request.Vsetattr key name text) words a none is = absurd (cc)
+brief_answer s (request.Vrandmember key n) words a none is = absurd (cc)
+
+pub short_reply_of : (old new : PlainStore) (r : request.Request) (words : List ℕ) (result : Result Answer Refusal) →
+    PlainDoes old r words (outcome_of result) new → needs_no_memory r ≡ true → short_of result ≢ None
+short_reply_of old new r words (Ok a) (inl c) none long = number_is_short old r words new a c long
+short_reply_of old new r words (Ok a) (inr (same, answers)) none long = long_is_none a long (brief_answer old r words (answer_of a) none answers.answer)
+short_reply_of old new r words (Err e) does none long = cc
 
 -- a short reply is the outcome's reply
 pub short_is_reply : (x : Result Answer Refusal) (b : Bytes) → short_of x ≡ Some b → reply (outcome_of x) ≡ b

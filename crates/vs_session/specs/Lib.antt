@@ -1,1 +1,3 @@
+pub mod Does
 pub mod After
+pub mod Alone

@@ -3,7 +3,8 @@ ghost use Rattle.std.specs.Prelude.{◌≡◌, ◌<◌, ◌⊎◌, ◌↔◌};
 ghost use Rattle.vs_defs.specs.Bytes.{Bytes};
 ghost use Rattle.vs_session_defs.specs.Words.{generator as generator_of};
 ghost use Rattle.vs_outside.specs.Known.{Adds, in_front, NothingLeft};
-ghost use Rattle.vs_connection.specs.Connection.{EndsWith};
+ghost use Rattle.vs_defs.specs.PlainMachine.{PlainHistory};
+ghost use Rattle.vs_session.specs.Alone.{Call, Stored, EndsWith};
 
 use crate::{Machine, Server};
 use std::alloc::Global;
@@ -13,7 +14,11 @@ use vs_outside::{Sink, Source};
 use vs_plain_store::{Limits, Store};
 
 impl Machine for Store {
-    ghost store = { λ s. s };
+    ghost Known = { PlainHistory };
+
+    ghost call = { Call };
+
+    ghost knows = { λ s k h. Stored s k h };
 
     fn do_now(&mut self, request: Request, words: &[u32]) -> Result<Answer, Refusal> {
         Store::do_now(self, request, words)

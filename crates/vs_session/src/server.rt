@@ -1,7 +1,6 @@
 //! The handler of a connection's messages: words in, one reply out.
-ghost use Rattle.std.specs.Prelude.{◌≡◌, ◌≢◌, ◌<◌, ◌≤◌, ◌⊎◌, None, Ok, false, All, length, IfOk};
+ghost use Rattle.std.specs.Prelude.{◌≡◌, ◌≢◌, ◌<◌, ◌≤◌, ◌⊎◌, ℕ, None, Ok, false, All, length, IfOk};
 ghost use Rattle.rand_pcg.specs.Lcg.{Lcg};
-ghost use Rattle.vs_defs.specs.PlainMachine.{PlainHistory};
 ghost use Rattle.vs_defs.specs.Reply.{Outcome, reply};
 ghost use Rattle.vs_defs.specs.Reply as outcome;
 ghost use Rattle.vs_session_defs.specs.Session.{is_bye};
@@ -9,7 +8,6 @@ ghost use Rattle.vs_command.specs.Answers.{answer_of};
 ghost use Rattle.vs_command.specs.Outcomes.{outcome_of};
 ghost use Rattle.vs_command.specs.Scores.{HasScores};
 ghost use Rattle.vs_reply.specs.Replies.{short_of};
-ghost use Rattle.vs_connection.specs.Own.{IsOwn};
 ghost use Rattle.vs_connection.specs.Served.{IsServed, IsReplied};
 ghost use Rattle.vs_session.specs.After.{After};
 
@@ -53,10 +51,10 @@ impl<M: Machine> Server<M> {
         requires some { 0 < length message.now }
         requires few { length message.now ≤ 65536 }
         requires short { All (λ word. length word ≤ 65536) message.now }
-        ensures served { (h : PlainHistory) (g : Lcg) → After (M.store self.old.machine) self.old.generator h g → IsOwn h
-            → IsServed (After (M.store self.new.machine) self.new.generator) (λ o. o ≡ outcome_of result) g h message.now }
-        ensures long { short_of result ≡ None → (h : PlainHistory) (g : Lcg) → After (M.store self.old.machine) self.old.generator h g → IsOwn h
-            → IsServed (After (M.store self.new.machine) self.new.generator) (λ o. o ≡ outcome.OutOfMemory) g h message.now }
+        ensures served { (author : ℕ) (h : M.Known) (g : Lcg) → After (M.knows self.old.machine author) self.old.generator h g
+            → IsServed M.call author (After (M.knows self.new.machine author) self.new.generator) (λ o. o ≡ outcome_of result) g h message.now }
+        ensures long { short_of result ≡ None → (author : ℕ) (h : M.Known) (g : Lcg) → After (M.knows self.old.machine author) self.old.generator h g
+            → IsServed M.call author (After (M.knows self.new.machine author) self.new.generator) (λ o. o ≡ outcome.OutOfMemory) g h message.now }
         ensures scores { IfOk result HasScores }
     {
         let request = read_request(self.alloc, message)?;
@@ -122,7 +120,11 @@ fn write_answer<K: Sink>(buffer: &mut Text, answer: &Answer, sink: &mut K) -> Re
 }
 
 impl<M: Machine> Handler for Server<M> {
-    ghost after = { λ s h g. After (M.store s.machine) s.generator h g };
+    ghost Known = { M.Known };
+
+    ghost call = { M.call };
+
+    ghost after = { λ s k h g. After (M.knows s.machine k) s.generator h g };
 
     fn handle<K: Sink>(&mut self, message: &[Text], sink: &mut K) -> Replied {
         let outcome = self.carry_out(message);

@@ -14,4 +14,6 @@ mod requests;
 #[cfg(test)]
 mod served;
 #[cfg(test)]
+mod shared;
+#[cfg(test)]
 mod tests;

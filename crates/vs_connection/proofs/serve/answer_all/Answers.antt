@@ -1,4 +1,4 @@
-use Rattle.std.proofs.Common.{◌<◌, ◌≢◌, List, [], ◌∷◌, ◌++◌, sym, subst, ◌∙◌, append_assoc, append-nil, arith, length, true}
+use Rattle.std.proofs.Common.{◌<◌, ◌≢◌, List, [], ◌∷◌, ◌++◌, sym, subst, ◌∙◌, append_assoc, append-nil, length, true}
 use Rattle.vs_defs.specs.Bytes.{Bytes}
 use Rattle.vs_defs.specs.Stream.{Message}
 use Rattle.vs_defs.specs.Reply.{reply, OutOfMemory}
@@ -27,62 +27,62 @@ handle-requires g c =
     }
 
 pub returns-in-Bye-clause-session : goal.returns-in-Bye-clause-session
-returns-in-Bye-clause-session g c start input given outcomes output h j s =
-    let i = c.loop-message.invariant.session start input given outcomes output h j s in
+returns-in-Bye-clause-session g c author start input given outcomes output h j s =
+    let i = c.loop-message.invariant.session author start input given outcomes output h j s in
     let so_far = i.2.4 in
     let m = c.in-Some.message in
-    let served = c.in-Bye.ensures.served i.2.2 i.2.3 so_far.now_is so_far.own in
+    let served = c.in-Bye.ensures.served author i.2.2 i.2.3 so_far.now_is in
     let o = served.outcome in
     let t = served.history in let k = served.generator in
-    let n : Next c.loop-message.decoder (g.H.Handler.after c.loop-message.handler) start input i.2.0 i.2.1 (output ++ i.0) i.2.2 i.2.3 c.next.new.self m o t k = record {
+    let n : Next g.H.Handler.call author c.loop-message.decoder (g.H.Handler.after c.loop-message.handler author) start input i.2.0 i.2.1 (output ++ i.0) i.2.2 i.2.3 c.next.new.self m o t k = record {
       so_far = so_far;
       stands = c.in-Some.ensures.stands input i.2.0 so_far.stands;
       first = c.in-Some.ensures.first input i.2.0 so_far.stands;
-      one = subst (λ (w : Message). ServesOne i.2.3 i.2.2 w o t k) c.as_slice.ensures served.serves;
+      one = subst (λ (w : Message). ServesOne g.H.Handler.call author i.2.3 i.2.2 w o t k) c.as_slice.ensures served.serves;
       answered = subst (λ (w : Message). IsTrue (is_ping_or_quit w) → o ≢ OutOfMemory) c.as_slice.ensures served.answered;
     } in (
       i.0 ++ reply o,
       Adds-trans (g.K.Sink.written c.args.sink.now) (g.K.Sink.written c.loop-message.sink) (g.K.Sink.written c.handle.new.sink) i.0 (reply o) i.1 served.is_replied.1,
-      subst (λ (l : Bytes). EndsAt (g.H.Handler.after c.handle.new.self) Quit start input l) (append_assoc output i.0 (reply o))
-          (to_quit c.loop-message.decoder (g.H.Handler.after c.loop-message.handler) (g.H.Handler.after c.handle.new.self) start input i.2.0 i.2.1 (output ++ i.0) i.2.2 i.2.3 c.next.new.self m o t k n served.now_is served.own served.is_replied.0),
+      subst (λ (l : Bytes). EndsAt g.H.Handler.call author (g.H.Handler.after c.handle.new.self author) Quit start input l) (append_assoc output i.0 (reply o))
+          (to_quit c.loop-message.decoder (g.H.Handler.after c.loop-message.handler author) (g.H.Handler.after c.handle.new.self author) start input i.2.0 i.2.1 (output ++ i.0) i.2.2 i.2.3 c.next.new.self m o t k n served.now_is served.is_replied.0),
     )
 
 pub returns-in-Failed-clause-session : goal.returns-in-Failed-clause-session
-returns-in-Failed-clause-session g c start input given outcomes output h j s =
-    let i = c.loop-message.invariant.session start input given outcomes output h j s in
+returns-in-Failed-clause-session g c author start input given outcomes output h j s =
+    let i = c.loop-message.invariant.session author start input given outcomes output h j s in
     let so_far = i.2.4 in
     let m = c.in-Some.message in
-    let served = c.in-Failed.ensures.served i.2.2 i.2.3 so_far.now_is so_far.own in
+    let served = c.in-Failed.ensures.served author i.2.2 i.2.3 so_far.now_is in
     let o = served.outcome in
     let t = served.history in let k = served.generator in
     let w = served.is_replied in
-    let n : Next c.loop-message.decoder (g.H.Handler.after c.loop-message.handler) start input i.2.0 i.2.1 (output ++ i.0) i.2.2 i.2.3 c.next.new.self m o t k = record {
+    let n : Next g.H.Handler.call author c.loop-message.decoder (g.H.Handler.after c.loop-message.handler author) start input i.2.0 i.2.1 (output ++ i.0) i.2.2 i.2.3 c.next.new.self m o t k = record {
       so_far = so_far;
       stands = c.in-Some.ensures.stands input i.2.0 so_far.stands;
       first = c.in-Some.ensures.first input i.2.0 so_far.stands;
-      one = subst (λ (w : Message). ServesOne i.2.3 i.2.2 w o t k) c.as_slice.ensures served.serves;
+      one = subst (λ (w : Message). ServesOne g.H.Handler.call author i.2.3 i.2.2 w o t k) c.as_slice.ensures served.serves;
       answered = subst (λ (w : Message). IsTrue (is_ping_or_quit w) → o ≢ OutOfMemory) c.as_slice.ensures served.answered;
     } in (
       i.0 ++ w.0,
       Adds-trans (g.K.Sink.written c.args.sink.now) (g.K.Sink.written c.loop-message.sink) (g.K.Sink.written c.handle.new.sink) i.0 w.0 i.1 w.4,
-      subst (λ (l : Bytes). EndsAt (g.H.Handler.after c.handle.new.self) WriteFault start input l) (append_assoc output i.0 w.0)
-          (loses c.loop-message.decoder (g.H.Handler.after c.loop-message.handler) (g.H.Handler.after c.handle.new.self) start input i.2.0 i.2.1 (output ++ i.0) i.2.2 i.2.3 c.next.new.self m o t k w.0 w.1 n served.now_is served.own w.2 w.3),
+      subst (λ (l : Bytes). EndsAt g.H.Handler.call author (g.H.Handler.after c.handle.new.self author) WriteFault start input l) (append_assoc output i.0 w.0)
+          (loses c.loop-message.decoder (g.H.Handler.after c.loop-message.handler author) (g.H.Handler.after c.handle.new.self author) start input i.2.0 i.2.1 (output ++ i.0) i.2.2 i.2.3 c.next.new.self m o t k w.0 w.1 n served.now_is w.2 w.3),
     )
 
 pub loop-message-preserved : goal.loop-message-preserved
 loop-message-preserved g c = record {
-  session = λ start input given outcomes output h j s.
-      let i = c.loop-message.invariant.session start input given outcomes output h j s in
+  session = λ author start input given outcomes output h j s.
+      let i = c.loop-message.invariant.session author start input given outcomes output h j s in
       let so_far = i.2.4 in
       let m = c.in-Some.message in
-      let served = c.in-Whole.ensures.served i.2.2 i.2.3 so_far.now_is so_far.own in
+      let served = c.in-Whole.ensures.served author i.2.2 i.2.3 so_far.now_is in
       let o = served.outcome in
       let t = served.history in let k = served.generator in
-      let n : Next c.loop-message.decoder (g.H.Handler.after c.loop-message.handler) start input i.2.0 i.2.1 (output ++ i.0) i.2.2 i.2.3 c.next.new.self m o t k = record {
+      let n : Next g.H.Handler.call author c.loop-message.decoder (g.H.Handler.after c.loop-message.handler author) start input i.2.0 i.2.1 (output ++ i.0) i.2.2 i.2.3 c.next.new.self m o t k = record {
         so_far = so_far;
         stands = c.in-Some.ensures.stands input i.2.0 so_far.stands;
         first = c.in-Some.ensures.first input i.2.0 so_far.stands;
-        one = subst (λ (w : Message). ServesOne i.2.3 i.2.2 w o t k) c.as_slice.ensures served.serves;
+        one = subst (λ (w : Message). ServesOne g.H.Handler.call author i.2.3 i.2.2 w o t k) c.as_slice.ensures served.serves;
         answered = subst (λ (w : Message). IsTrue (is_ping_or_quit w) → o ≢ OutOfMemory) c.as_slice.ensures served.answered;
       } in (
         i.0 ++ reply o,
@@ -92,9 +92,9 @@ loop-message-preserved g c = record {
           i.2.1 ++ o ∷ [],
           t,
           k,
-          same_so_far c.next.new.self c.take_back.new.self (g.H.Handler.after c.handle.new.self) start input (i.2.0 ++ m ∷ []) (i.2.1 ++ o ∷ []) (output ++ (i.0 ++ reply o)) t k c.take_back.ensures.stands
-              (subst (λ (l : Bytes). SoFar c.next.new.self (g.H.Handler.after c.handle.new.self) start input (i.2.0 ++ m ∷ []) (i.2.1 ++ o ∷ []) l t k) (append_assoc output i.0 (reply o))
-              (one_more c.loop-message.decoder (g.H.Handler.after c.loop-message.handler) (g.H.Handler.after c.handle.new.self) start input i.2.0 i.2.1 (output ++ i.0) i.2.2 i.2.3 c.next.new.self m o t k n served.now_is served.own served.is_replied.0)),
+          same_so_far c.next.new.self c.take_back.new.self (g.H.Handler.after c.handle.new.self author) start input (i.2.0 ++ m ∷ []) (i.2.1 ++ o ∷ []) (output ++ (i.0 ++ reply o)) t k c.take_back.ensures.stands
+              (subst (λ (l : Bytes). SoFar g.H.Handler.call author c.next.new.self (g.H.Handler.after c.handle.new.self author) start input (i.2.0 ++ m ∷ []) (i.2.1 ++ o ∷ []) l t k) (append_assoc output i.0 (reply o))
+              (one_more c.loop-message.decoder (g.H.Handler.after c.loop-message.handler author) (g.H.Handler.after c.handle.new.self author) start input i.2.0 i.2.1 (output ++ i.0) i.2.2 i.2.3 c.next.new.self m o t k n served.now_is served.is_replied.0)),
         ),
       );
   given = let given = c.loop-message.invariant.given in (given.0, given.1 ++ c.in-Some.message ∷ [], c.take_back.ensures.stands given.0 (given.1 ++ c.in-Some.message ∷ []) (c.in-Some.ensures.stands given.0 given.1 given.2));
@@ -104,8 +104,8 @@ loop-message-preserved g c = record {
 }
 
 pub returns-clause-session : goal.returns-clause-session
-returns-clause-session g c start input given outcomes output h j s =
-    let i = c.loop-message.invariant.session start input given outcomes output h j s in
+returns-clause-session g c author start input given outcomes output h j s =
+    let i = c.loop-message.invariant.session author start input given outcomes output h j s in
     let so_far = i.2.4 in (
       i.0,
       i.1,
@@ -121,7 +121,6 @@ returns-clause-session g c start input given outcomes output h j s =
           going = so_far.going;
           written = so_far.written;
           now_is = so_far.now_is;
-          own = so_far.own;
         };
         first = subst (λ (l : List Message). GivenFirst true input l) (append-nil i.2.0) (c.in_default.ensures.first input i.2.0 so_far.stands);
         all = λ kept. c.in_default.ensures.all input i.2.0 so_far.stands (λ lost. kept (c.in_default.ensures.failure ∙ lost));

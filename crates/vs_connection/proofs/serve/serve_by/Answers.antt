@@ -5,7 +5,7 @@ use Rattle.vs_connection.proofs.Faults.{read_rose, write_rose}
 use Rattle.vs_connection.proofs.serve.serve_by.Goals as goal
 
 pub returns-in-Err-clause-session : goal.returns-in-Err-clause-session
-returns-in-Err-clause-session g c start here own = ([], [], in_front-none _, Adds-none _, ends_at_once (g.H.Handler.after c.args.handler.now) start here own)
+returns-in-Err-clause-session g c author start here = ([], [], in_front-none _, Adds-none _, ends_at_once (g.H.Handler.after c.args.handler.now author) start here)
 
 pub returns-in-Ok-clause-read_fault : goal.returns-in-Ok-clause-read_fault
 returns-in-Ok-clause-read_fault g c = (c.serve_with.ensures.read_fault, read_rose _ _ _ c.serve_with.ensures.unfailed_read)

@@ -10,7 +10,7 @@ use Rattle.vs_connection.proofs.serve.serve_with.Goals as goal
 
 pub loop-taken-init : goal.loop-taken-init
 loop-taken-init g c = record {
-  session = λ start here own. ([], [], in_front-none _, Adds-none _, at_start c.new-decoder.result (g.H.Handler.after c.args.handler.now) start c.new-decoder.ensures.stands c.new-decoder.ensures.going here own, refl);
+  session = λ author start here. ([], [], in_front-none _, Adds-none _, at_start c.new-decoder.result (g.H.Handler.after c.args.handler.now author) start c.new-decoder.ensures.stands c.new-decoder.ensures.going here, refl);
   begun = ([], [], c.new-decoder.ensures.stands);
   going = c.new-decoder.ensures.going;
   some = c.requires.some;
@@ -22,45 +22,45 @@ loop-taken-init g c = record {
 }
 
 pub returns-in-Failed-clause-session : goal.returns-in-Failed-clause-session
-returns-in-Failed-clause-session g c start here own =
-    let i = c.loop-taken.invariant.session start here own in (
+returns-in-Failed-clause-session g c author start here =
+    let i = c.loop-taken.invariant.session author start here in (
       i.0,
       i.1,
       subst (λ o. g.S.Source.left c.args.source.now ≡ in_front i.0 o) (sym c.in-Failed.ensures.took) i.2,
       i.3,
-      ends_read c.loop-taken.decoder (g.H.Handler.after c.loop-taken.handler) start i.0 i.1 i.4,
+      ends_read c.loop-taken.decoder (g.H.Handler.after c.loop-taken.handler author) start i.0 i.1 i.4,
     )
 
 pub returns-then-at_border-clause-session : goal.returns-then-at_border-clause-session
-returns-then-at_border-clause-session g c start here own =
-    let i = c.loop-taken.invariant.session start here own in
+returns-then-at_border-clause-session g c author start here =
+    let i = c.loop-taken.invariant.session author start here in
     let kept : failure c.loop-taken.decoder ≡ Some FeedNoMemory → ⊥ = none_kept (failure c.loop-taken.decoder) i.4.going in (
       i.0,
       i.1,
       subst (λ o. g.S.Source.left c.args.source.now ≡ in_front i.0 o) (sym c.in-End.ensures.took.0) i.2,
       i.3,
-      ends_whole c.loop-taken.decoder (g.H.Handler.after c.loop-taken.handler) start i.0 i.1 i.4
+      ends_whole c.loop-taken.decoder (g.H.Handler.after c.loop-taken.handler author) start i.0 i.1 i.4
           ((c.at_border.ensures i.0 i.4.answered.given i.4.answered.so_far.stands kept).0 c.if-at_border.true),
     )
 
 pub returns-in-End-clause-session : goal.returns-in-End-clause-session
-returns-in-End-clause-session g c start here own =
-    let i = c.loop-taken.invariant.session start here own in
+returns-in-End-clause-session g c author start here =
+    let i = c.loop-taken.invariant.session author start here in
     let kept : failure c.loop-taken.decoder ≡ Some FeedNoMemory → ⊥ = none_kept (failure c.loop-taken.decoder) i.4.going in (
       i.0,
       i.1,
       subst (λ o. g.S.Source.left c.args.source.now ≡ in_front i.0 o) (sym c.in-End.ensures.took.0) i.2,
       i.3,
-      ends_cut c.loop-taken.decoder (g.H.Handler.after c.loop-taken.handler) start i.0 i.1 i.4
+      ends_cut c.loop-taken.decoder (g.H.Handler.after c.loop-taken.handler author) start i.0 i.1 i.4
           (λ whole. let yes = (c.at_border.ensures i.0 i.4.answered.given i.4.answered.so_far.stands kept).1 whole in let two : false ≡ true = sym c.if-at_border.false ∙ yes in cc),
     )
 
 pub returns-in-Some-clause-session : goal.returns-in-Some-clause-session
-returns-in-Some-clause-session g c start here own =
+returns-in-Some-clause-session g c author start here =
     let i = more_answered (g.S.Source.left c.args.source.now) (g.S.Source.left c.loop-taken.source) (g.S.Source.left c.read.new.self)
     (g.K.Sink.written c.args.sink.now) (g.K.Sink.written c.loop-taken.sink) (g.K.Sink.written c.answer_all.new.sink)
-    c.loop-taken.decoder c.feed-fed.new.self c.answer_all.new.decoder (g.H.Handler.after c.loop-taken.handler) (g.H.Handler.after c.answer_all.new.handler) start (take c.in-Bytes.n c.read.new.into) c.loop-taken.taken (Some c.in-Some.end)
-    (c.loop-taken.invariant.session start here own) c.in-Bytes.ensures.took.2 c.feed-fed.ensures.stands c.in-Some.ensures.session in
+    c.loop-taken.decoder c.feed-fed.new.self c.answer_all.new.decoder (g.H.Handler.after c.loop-taken.handler author) (g.H.Handler.after c.answer_all.new.handler author) start (take c.in-Bytes.n c.read.new.into) c.loop-taken.taken (Some c.in-Some.end)
+    (c.loop-taken.invariant.session author start here) c.in-Bytes.ensures.took.2 c.feed-fed.ensures.stands (c.in-Some.ensures.session author) in
     (i.0, i.1, i.2, i.3, i.4)
 
 pub answer_all-requires : goal.answer_all-requires
@@ -80,12 +80,12 @@ loop-taken-preserved g c =
     let going : failure c.feed-fed.new.self ≡ None = ok_none (failure c.feed-fed.new.self) (sym c.in-Ok.is ∙ c.feed-fed.ensures.answer) in
     let b = c.loop-taken.invariant.begun in
     record {
-      session = λ start here own.
-          let s = c.loop-taken.invariant.session start here own in
+      session = λ author start here.
+          let s = c.loop-taken.invariant.session author start here in
           let i = more_answered (g.S.Source.left c.args.source.now) (g.S.Source.left c.loop-taken.source) (g.S.Source.left c.read.new.self)
           (g.K.Sink.written c.args.sink.now) (g.K.Sink.written c.loop-taken.sink) (g.K.Sink.written c.answer_all.new.sink)
-          c.loop-taken.decoder c.feed-fed.new.self c.answer_all.new.decoder (g.H.Handler.after c.loop-taken.handler) (g.H.Handler.after c.answer_all.new.handler) start (take c.in-Bytes.n c.read.new.into) c.loop-taken.taken None
-          (c.loop-taken.invariant.session start here own) c.in-Bytes.ensures.took.2 c.feed-fed.ensures.stands c.in_default.ensures.session in
+          c.loop-taken.decoder c.feed-fed.new.self c.answer_all.new.decoder (g.H.Handler.after c.loop-taken.handler author) (g.H.Handler.after c.answer_all.new.handler author) start (take c.in-Bytes.n c.read.new.into) c.loop-taken.taken None
+          (c.loop-taken.invariant.session author start here) c.in-Bytes.ensures.took.2 c.feed-fed.ensures.stands (c.in_default.ensures.session author) in
           let means : FeedMeans (s.0 ++ take c.in-Bytes.n c.read.new.into) c.feed-fed.result = c.feed-fed.ensures.means s.0 s.4.answered.given s.4.answered.so_far.stands in (
             i.0,
             i.1,
@@ -105,21 +105,21 @@ loop-taken-preserved g c =
     }
 
 pub returns-in-NoMemory-clause-session : goal.returns-in-NoMemory-clause-session
-returns-in-NoMemory-clause-session g c start here own =
+returns-in-NoMemory-clause-session g c author start here =
     let i = more_answered (g.S.Source.left c.args.source.now) (g.S.Source.left c.loop-taken.source) (g.S.Source.left c.read.new.self)
     (g.K.Sink.written c.args.sink.now) (g.K.Sink.written c.loop-taken.sink) (g.K.Sink.written c.answer_all.new.sink)
-    c.loop-taken.decoder c.feed-fed.new.self c.answer_all.new.decoder (g.H.Handler.after c.loop-taken.handler) (g.H.Handler.after c.answer_all.new.handler) start (take c.in-Bytes.n c.read.new.into) c.loop-taken.taken None
-    (c.loop-taken.invariant.session start here own) c.in-Bytes.ensures.took.2 c.feed-fed.ensures.stands c.in_default.ensures.session in
+    c.loop-taken.decoder c.feed-fed.new.self c.answer_all.new.decoder (g.H.Handler.after c.loop-taken.handler author) (g.H.Handler.after c.answer_all.new.handler author) start (take c.in-Bytes.n c.read.new.into) c.loop-taken.taken None
+    (c.loop-taken.invariant.session author start here) c.in-Bytes.ensures.took.2 c.feed-fed.ensures.stands (c.in_default.ensures.session author) in
     let lost : failure c.feed-fed.new.self ≡ Some FeedNoMemory = err_is (failure c.feed-fed.new.self) FeedNoMemory (sym (c.in-Err.is ∙ ap Err c.in-NoMemory.is) ∙ c.feed-fed.ensures.answer) in
-    (i.0, i.1, i.2, i.3, ends_memory c.answer_all.new.decoder (g.H.Handler.after c.answer_all.new.handler) start i.0 i.1 i.4 (c.answer_all.ensures.failure ∙ lost))
+    (i.0, i.1, i.2, i.3, ends_memory c.answer_all.new.decoder (g.H.Handler.after c.answer_all.new.handler author) start i.0 i.1 i.4 (c.answer_all.ensures.failure ∙ lost))
 
 pub returns-then-write_fault-clause-session : goal.returns-then-write_fault-clause-session
-returns-then-write_fault-clause-session g c start here own =
-    let s = c.loop-taken.invariant.session start here own in
+returns-then-write_fault-clause-session g c author start here =
+    let s = c.loop-taken.invariant.session author start here in
     let i = more_answered (g.S.Source.left c.args.source.now) (g.S.Source.left c.loop-taken.source) (g.S.Source.left c.read.new.self)
     (g.K.Sink.written c.args.sink.now) (g.K.Sink.written c.loop-taken.sink) (g.K.Sink.written c.answer_all.new.sink)
-    c.loop-taken.decoder c.feed-fed.new.self c.answer_all.new.decoder (g.H.Handler.after c.loop-taken.handler) (g.H.Handler.after c.answer_all.new.handler) start (take c.in-Bytes.n c.read.new.into) c.loop-taken.taken None
-    (c.loop-taken.invariant.session start here own) c.in-Bytes.ensures.took.2 c.feed-fed.ensures.stands c.in_default.ensures.session in
+    c.loop-taken.decoder c.feed-fed.new.self c.answer_all.new.decoder (g.H.Handler.after c.loop-taken.handler author) (g.H.Handler.after c.answer_all.new.handler author) start (take c.in-Bytes.n c.read.new.into) c.loop-taken.taken None
+    (c.loop-taken.invariant.session author start here) c.in-Bytes.ensures.took.2 c.feed-fed.ensures.stands (c.in_default.ensures.session author) in
     let is = c.in-Err.is ∙ ap Err c.in-Protocol.is in
     let means : FeedMeans (s.0 ++ take c.in-Bytes.n c.read.new.into) c.feed-fed.result = c.feed-fed.ensures.means s.0 s.4.answered.given s.4.answered.so_far.stands in
     let broken : HasFault true i.0 (fault_of c.in-Protocol.fault) c.in-Protocol.at = subst (FeedMeans (s.0 ++ take c.in-Bytes.n c.read.new.into)) is means in
@@ -129,16 +129,16 @@ returns-then-write_fault-clause-session g c start here own =
       i.1 ++ line,
       i.2,
       Adds-trans (g.K.Sink.written c.args.sink.now) (g.K.Sink.written c.answer_all.new.sink) (g.K.Sink.written c.write_fault.new.sink) i.1 line i.3 c.if-write_fault.ensures.written,
-      ends_fault c.answer_all.new.decoder (g.H.Handler.after c.answer_all.new.handler) start i.0 i.1 c.in-Protocol.fault c.in-Protocol.at i.4 (λ lost. kept (sym c.answer_all.ensures.failure ∙ lost)) broken,
+      ends_fault c.answer_all.new.decoder (g.H.Handler.after c.answer_all.new.handler author) start i.0 i.1 c.in-Protocol.fault c.in-Protocol.at i.4 (λ lost. kept (sym c.answer_all.ensures.failure ∙ lost)) broken,
     )
 
 pub returns-in-Protocol-clause-session : goal.returns-in-Protocol-clause-session
-returns-in-Protocol-clause-session g c start here own =
-    let s = c.loop-taken.invariant.session start here own in
+returns-in-Protocol-clause-session g c author start here =
+    let s = c.loop-taken.invariant.session author start here in
     let i = more_answered (g.S.Source.left c.args.source.now) (g.S.Source.left c.loop-taken.source) (g.S.Source.left c.read.new.self)
     (g.K.Sink.written c.args.sink.now) (g.K.Sink.written c.loop-taken.sink) (g.K.Sink.written c.answer_all.new.sink)
-    c.loop-taken.decoder c.feed-fed.new.self c.answer_all.new.decoder (g.H.Handler.after c.loop-taken.handler) (g.H.Handler.after c.answer_all.new.handler) start (take c.in-Bytes.n c.read.new.into) c.loop-taken.taken None
-    (c.loop-taken.invariant.session start here own) c.in-Bytes.ensures.took.2 c.feed-fed.ensures.stands c.in_default.ensures.session in
+    c.loop-taken.decoder c.feed-fed.new.self c.answer_all.new.decoder (g.H.Handler.after c.loop-taken.handler author) (g.H.Handler.after c.answer_all.new.handler author) start (take c.in-Bytes.n c.read.new.into) c.loop-taken.taken None
+    (c.loop-taken.invariant.session author start here) c.in-Bytes.ensures.took.2 c.feed-fed.ensures.stands (c.in_default.ensures.session author) in
     let is = c.in-Err.is ∙ ap Err c.in-Protocol.is in
     let means : FeedMeans (s.0 ++ take c.in-Bytes.n c.read.new.into) c.feed-fed.result = c.feed-fed.ensures.means s.0 s.4.answered.given s.4.answered.so_far.stands in
     let broken : HasFault true i.0 (fault_of c.in-Protocol.fault) c.in-Protocol.at = subst (FeedMeans (s.0 ++ take c.in-Bytes.n c.read.new.into)) is means in
@@ -148,10 +148,10 @@ returns-in-Protocol-clause-session g c start here own =
       i.1 ++ w.0,
       i.2,
       Adds-trans (g.K.Sink.written c.args.sink.now) (g.K.Sink.written c.answer_all.new.sink) (g.K.Sink.written c.write_fault.new.sink) i.1 w.0 i.3 w.4,
-      loses_line c.answer_all.new.decoder (g.H.Handler.after c.answer_all.new.handler) start i.0 i.1 c.in-Protocol.fault c.in-Protocol.at w.0 w.1 i.4 (λ lost. kept (sym c.answer_all.ensures.failure ∙ lost)) broken w.2 w.3,
+      loses_line c.answer_all.new.decoder (g.H.Handler.after c.answer_all.new.handler author) start i.0 i.1 c.in-Protocol.fault c.in-Protocol.at w.0 w.1 i.4 (λ lost. kept (sym c.answer_all.ensures.failure ∙ lost)) broken w.2 w.3,
     )
 
 pub returns-clause-session : goal.returns-clause-session
-returns-clause-session g c start here own =
-    let i = c.loop-taken.invariant.session start here own in
-    (i.0, i.1, i.2, i.3, ends_spent c.loop-taken.decoder (g.H.Handler.after c.loop-taken.handler) start i.0 i.1 i.4 (omega (arith, i.5)))
+returns-clause-session g c author start here =
+    let i = c.loop-taken.invariant.session author start here in
+    (i.0, i.1, i.2, i.3, ends_spent c.loop-taken.decoder (g.H.Handler.after c.loop-taken.handler author) start i.0 i.1 i.4 (omega (arith, i.5)))

@@ -1,4 +1,4 @@
-use Rattle.std.proofs.Common.{List, ◌++◌, ℕ, take, drop, sym, ap, ◌∙◌, append_assoc, arith}
+use Rattle.std.proofs.Common.{List, ◌++◌, ℕ, take, drop, sym, ap, ◌∙◌, append_assoc}
 use Rattle.std.proofs.lemmas.List.{take-append-drop}
 use Rattle.vs_outside.proofs.KnownBytes.{Adds-trans}
 use Rattle.vs_connection.proofs.write.write_all.Goals as goal

@@ -1,4 +1,4 @@
-use Rattle.std.proofs.Common.{◌≡◌, ◌≤◌, List, ◌++◌, ℕ, length}
+use Rattle.std.proofs.Common.{◌≡◌, List, ◌++◌, ℕ, length}
 use Rattle.vs_outside.specs.Known.{Adds}
 use Rattle.vs_connection.proofs.write.write_all.Given as goal
 

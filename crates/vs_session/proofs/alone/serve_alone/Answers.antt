@@ -1,20 +1,21 @@
 use Rattle.std.proofs.Common.{[], ◌∙◌, ap, sym, refl}
 use Rattle.vs_defs.specs.Store.{empty_store}
 use Rattle.vs_session_defs.specs.Words.{generator}
-use Rattle.vs_connection.specs.Own.{IsOwn}
-use Rattle.vs_connection.specs.Point.{fresh}
+use Rattle.vs_session.specs.Alone.{fresh}
 use Rattle.vs_session.proofs.alone.serve_alone.Goals as goal
 
 pub returns-clause-session : goal.returns-clause-session
 returns-clause-session g c =
-    let own : IsOwn [] = record { legal = tt; by_one = refl } in
-    let i = c.serve_by.ensures.session (fresh (generator c.args.seed 0)) (record {
-      stored = record { own = own; store_is = sym (c.new-server.ensures.machine ∙ c.new-store.ensures ∙ ap empty_store c.usual.ensures) };
+    let i = c.serve_by.ensures.session 0 (fresh (generator c.args.seed 0)) (record {
+      known = record {
+        own = record { legal = tt; by_one = refl };
+        store_is = sym (c.new-server.ensures.machine ∙ c.new-store.ensures ∙ ap empty_store c.usual.ensures);
+      };
       words = c.new-server.ensures.generator ∙ c.generator.ensures;
-    }) own in (
+    }) in (
       i.0,
       i.1,
       i.2,
       i.3,
-      record { now = i.4.now; own = i.4.own; there = tt; is_end = i.4.is_end },
+      record { now = i.4.now; there = i.4.there.known.own; is_end = i.4.is_end },
     )

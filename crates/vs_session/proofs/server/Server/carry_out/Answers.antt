@@ -11,8 +11,7 @@ use Rattle.vs_command.specs.declared.refusal.Refusal.TheVariants.{NoMemory}
 use Rattle.vs_connection.specs.Served.{IsServed}
 use Rattle.vs_session.specs.After.{After}
 use Rattle.vs_session.proofs.Serving.{length_drawn, read_is_plain, carried_out, starved, with_reply}
-use Rattle.vs_session.proofs.Changes.{long_changes_nothing}
-use Rattle.vs_session.proofs.Memory.{answered, short, draws_none}
+use Rattle.vs_session.proofs.Memory.{answered, long_no_ping, draws_none}
 use Rattle.vs_session.proofs.server.Server.carry_out.Goals as goal
 
 pub do_now-requires-clause-words : goal.do_now-requires-clause-words
@@ -24,34 +23,30 @@ pub do_now-requires-clause-plain : goal.do_now-requires-clause-plain
 do_now-requires-clause-plain g c = read_is_plain c.args.message.now (request_of c.in_ok-request.request) c.in_ok-request.ensures.request
 
 pub returns-in_err-words-clause-served : goal.returns-in_err-words-clause-served
-returns-in_err-words-clause-served g c h k after own =
-    let store = g.M.Machine.store c.args.self.now.machine in
+returns-in_err-words-clause-served g c author h k after =
+    let knows = g.M.Machine.knows c.args.self.now.machine author in
     let other : IsTrue (is_ping_or_quit c.args.message.now) → ⊥ = λ ping.
     true≢false (sym (c.in_err-words.ensures.none (c.draws.ensures ∙ draws_none c.args.message.now (request_of c.in_ok-request.request) ping c.in_ok-request.ensures.request))) in
     let p = err_from_is_err_and c.from_residual-in_err-words.result c.from_residual-in_err-words.ensures.1 in
     let is : c.from_residual-in_err-words.result ≡ Err NoMemory = p.1 ∙ ap Err p.2 in
-    subst (λ (gen : Lcg). IsServed (After store gen) (λ o. o ≡ outcome_of c.from_residual-in_err-words.result) k h c.args.message.now) (sym c.in_err-words.ensures.refused)
-    (with_reply (After store c.args.self.now.generator) outcome.OutOfMemory (λ o. o ≡ outcome_of c.from_residual-in_err-words.result) k h c.args.message.now
-    (starved store c.args.self.now.generator c.args.message.now h k other after) (sym (ap outcome_of is)))
+    subst (λ (gen : Lcg). IsServed g.M.Machine.call author (After knows gen) (λ o. o ≡ outcome_of c.from_residual-in_err-words.result) k h c.args.message.now) (sym c.in_err-words.ensures.refused)
+    (with_reply (After knows c.args.self.now.generator) outcome.OutOfMemory (λ o. o ≡ outcome_of c.from_residual-in_err-words.result) k h c.args.message.now
+    (starved g.M.Machine.call author knows c.args.self.now.generator c.args.message.now h k other after) (sym (ap outcome_of is)))
 
 pub returns-clause-served : goal.returns-clause-served
-returns-clause-served g c h k after own =
-    carried_out (g.M.Machine.store c.args.self.now.machine) (g.M.Machine.store c.do_now.new.self) c.args.self.now.generator c.draw.new.generator c.args.message.now
-    (request_of c.in_ok-request.request) c.as_slice.result.now (outcome_of c.do_now.result) c.in_ok-request.ensures.request c.in_ok-request.ensures.bounds
+returns-clause-served g c author h k after =
+    carried_out g.M.Machine.call author (g.M.Machine.knows c.do_now.new.self author) c.args.self.now.generator c.draw.new.generator c.args.message.now
+    (request_of c.in_ok-request.request) c.as_slice.result.now (outcome_of c.do_now.result) c.in_ok-request.ensures.request
     (c.as_slice.ensures.value ∙ c.in_ok-words.ensures.words ∙ ap (λ (n : ℕ). drawn n c.args.self.now.generator) c.draws.ensures)
     (c.in_ok-words.ensures.moved ∙ ap (λ (n : ℕ). after_draws n c.args.self.now.generator) c.draws.ensures)
-    c.do_now.ensures.does (answered c.args.message.now (request_of c.in_ok-request.request) c.do_now.result c.in_ok-request.ensures.request c.do_now.ensures.memory) h k after
+    (answered c.args.message.now (request_of c.in_ok-request.request) c.do_now.result c.in_ok-request.ensures.request c.do_now.ensures.memory) h k after.words
+    (c.do_now.ensures.does author h after.known)
 
 pub returns-clause-long : goal.returns-clause-long
-returns-clause-long g c long h k after own =
-    let same = long_changes_nothing (g.M.Machine.store c.args.self.now.machine) (g.M.Machine.store c.do_now.new.self) (request_of c.in_ok-request.request) c.as_slice.result.now c.do_now.result
-    c.do_now.ensures.does long
-    in
-    carried_out (g.M.Machine.store c.args.self.now.machine) (g.M.Machine.store c.do_now.new.self) c.args.self.now.generator c.draw.new.generator c.args.message.now
-    (request_of c.in_ok-request.request) c.as_slice.result.now outcome.OutOfMemory c.in_ok-request.ensures.request c.in_ok-request.ensures.bounds
+returns-clause-long g c long author h k after =
+    carried_out g.M.Machine.call author (g.M.Machine.knows c.do_now.new.self author) c.args.self.now.generator c.draw.new.generator c.args.message.now
+    (request_of c.in_ok-request.request) c.as_slice.result.now outcome.OutOfMemory c.in_ok-request.ensures.request
     (c.as_slice.ensures.value ∙ c.in_ok-words.ensures.words ∙ ap (λ (n : ℕ). drawn n c.args.self.now.generator) c.draws.ensures)
     (c.in_ok-words.ensures.moved ∙ ap (λ (n : ℕ). after_draws n c.args.self.now.generator) c.draws.ensures)
-    same
-    (λ ping. absurd (short c.args.message.now (request_of c.in_ok-request.request) (g.M.Machine.store c.args.self.now.machine) (g.M.Machine.store c.do_now.new.self) c.as_slice.result.now c.do_now.result
-    c.in_ok-request.ensures.request c.do_now.ensures.does ping long))
-    h k after
+    (λ ping. absurd (long_no_ping c.args.message.now (request_of c.in_ok-request.request) c.do_now.result c.in_ok-request.ensures.request c.do_now.ensures.short ping long)) h k after.words
+    (c.do_now.ensures.long long author h after.known)
