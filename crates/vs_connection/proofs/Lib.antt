@@ -1,4 +1,3 @@
-pub mod Calls
 pub mod Drawn
 pub mod Serving
 pub mod Sessions
