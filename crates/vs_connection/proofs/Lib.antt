@@ -1,4 +1,3 @@
-pub mod Drawn
 pub mod Serving
 pub mod Sessions
 pub mod Ends
