@@ -1,5 +1,5 @@
-//! What a snapshot keeps of a set's order: by each place the id and the name of its member, and by each id the place. Both are in pages that
-//! copies share, so that whoever holds the old order sees it as it was, and a change copies what it touches and no more.
+//! What a snapshot keeps of a set's order: by each place the id and the name of its member, and by each id the place. Both are in pages
+//! that copies share, so that whoever holds the old order sees it as it was, and a change copies what it touches and no more.
 ghost use Rattle.std.specs.Prelude.{◌≡◌, ◌<◌, ◌≤◌, ◌^◌, ◌++◌, ◌∷◌, [], true, false, length, IfOk, slice_get, IsSomeAnd};
 ghost use Rattle.vs_order.specs.Entries.{is_taken, place_of, place_of_id, without_place};
 

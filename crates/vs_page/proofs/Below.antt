@@ -1,5 +1,5 @@
 -- Ids below a bound, of a map and of what is changed over it.
-use Rattle.std.proofs.Common.{◌≡◌, ◌<◌, ℕ, refl}
+use Rattle.std.proofs.Common.{◌<◌, ℕ, refl}
 use Rattle.std.specs.Prelude.{Some, None, IsSome, unwrap_or}
 use Rattle.std.specs.declared.option.Option.{Option}
 

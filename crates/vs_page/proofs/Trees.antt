@@ -1,10 +1,10 @@
 -- Items in pages after one was put.
-use Rattle.std.proofs.Common.{◌≡◌, ◌≢◌, ◌⊎◌, ℕ, zero, suc, ◌+◌, ◌*◌, ◌/◌, ◌%◌, ◌<◌, ◌≤◌, ◌==◌, Bool, true, false, refl, List, [], ◌∷◌, length, get_or, set, sym, ap, ◌∙◌, subst, arith, cond, inl, inr, below_more, length-append, length-set, take, ◌++◌, ◌-◌}
-use Rattle.std.specs.Prelude.{Some, None, slice_get, slice_set, slice_index_or}
+use Rattle.std.proofs.Common.{◌≡◌, ◌≢◌, ℕ, zero, suc, ◌+◌, ◌/◌, ◌%◌, ◌<◌, ◌≤◌, ◌==◌, Bool, true, false, refl, List, [], ◌∷◌, length, get_or, set, sym, ap, ◌∙◌, subst, arith, cond, inl, inr, below_more, ◌++◌}
+use Rattle.std.specs.Prelude.{Some, None, slice_get, slice_set}
 use Rattle.std.specs.declared.option.Option.{Option}
-use Rattle.std.proofs.lemmas.List.{get_or-set_same, get_or-set_other, get_or_append_left, get_or_push, get_or_past, take_more, take-set}
+use Rattle.std.proofs.lemmas.List.{get_or-set_same, get_or-set_other, get_or_append_left, get_or_push, get_or_past}
 use Rattle.std.proofs.lemmas.Bool.{cases_eq, cases_lt}
-use Rattle.std.specs.Prelude.{unwrap_or, nat_eq}
+use Rattle.std.specs.Prelude.{unwrap_or}
 use Rattle.std.specs.Option.{option_or}
 use Rattle.vs_page.specs.Changes.{says, shown}
 use Rattle.vs_page.specs.declared.page_map.Change.{Change}

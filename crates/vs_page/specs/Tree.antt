@@ -2,7 +2,7 @@
 --     item_at, list_at        an item of a page, or none; a list of lists' list, or none
 --     at_root                 the item at an id
 --     page_with, branch_with, root_with       the same with another item in one place that is there
-use Rattle.std.specs.Prelude.{◌≡◌, ◌<◌, ◌*◌, ◌+◌, ◌/◌, ◌%◌, ℕ, List, [], None, length, slice_index_or, slice_set, ◌==◌, cond}
+use Rattle.std.specs.Prelude.{◌/◌, ◌%◌, ℕ, List, [], None, slice_index_or, slice_set}
 use Rattle.std.specs.declared.option.Option.{Option}
 
 abbrev pub item_at : {X : Type 0} → List (Option X) → ℕ → Option X

@@ -1,5 +1,5 @@
-//! Ways to pages made nobody else's: what somebody else has is copied, and what is short is filled up. The map means the same throughout, so
-//! whatever is refused, nothing has changed. This is all that takes memory when a map is changed.
+//! Ways to pages made nobody else's: what somebody else has is copied, and what is short is filled up. The map means the same
+//! throughout, so whatever is refused, nothing has changed. This is all that takes memory when a map is changed.
 ghost use Rattle.std.specs.Prelude.{◌≡◌, ◌≤◌, ◌<◌, ℕ, length, slice_index_or, IfOk};
 ghost use Rattle.vs_page.specs.Tree.{item_at, list_at, at_digits};
 

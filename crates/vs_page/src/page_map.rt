@@ -1,6 +1,6 @@
-//! A map whose pages copies share. A change first makes the ways to its places its own, which changes nothing of what the map means, and then
-//! takes the changes over at one stroke; only then they move into their places. So a refused change leaves the map as it was, and a copy keeps
-//! what it had, since what it shares is never written.
+//! A map whose pages copies share. A change first makes the ways to its places its own, which changes nothing of what the map means,
+//! and then takes the changes over at one stroke; only then they move into their places. So a refused change leaves the map as it was,
+//! and a copy keeps what it had, since what it shares is never written.
 ghost use Rattle.std.specs.Prelude.{◌≡◌, ◌≢◌, ◌<◌, ℕ, length, unwrap_or, None, IsTrue, IfOk, OnOk, OnErr};
 ghost use Rattle.std.specs.Option.{option_copied};
 ghost use Rattle.vs_page.specs.Tree.{at_root};

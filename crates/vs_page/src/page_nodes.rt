@@ -9,8 +9,8 @@ use std::sync::ledger::Ledger;
 use vs_graph::{Edit, FreshNodes, Node, Nodes, Steps};
 use vs_outside::NoMemory;
 
-/// Nodes in pages of 16, in branches of 256 pages, in a root. Each node lies in its page. A snapshot is one shared pointer; a publish copies
-/// the pages that a snapshot shares and changes the others in place.
+/// Nodes in pages of 16, in branches of 256 pages, in a root. Each node lies in its page. A snapshot is one shared pointer; a publish
+/// copies the pages that a snapshot shares and changes the others in place.
 #[derive(Drop)]
 pub struct PageNodes {
     map: PageMap<Node>,

@@ -95,8 +95,8 @@ fn has_words(
     all
 }
 
-/// Forty members in two pages of each of two branches, and a change: whether it is made or refused as a whole, and whether a snapshot that is
-/// held keeps what it had.
+/// Forty members in two pages of each of two branches, and a change: whether it is made or refused as a whole, and whether a snapshot
+/// that is held keeps what it had.
 fn is_whole(alloc: Global, is_held: bool) -> Result<bool, NoMemory> {
     let ranges: &[(u32, u32)] = &[(4, 24), (4086, 4106)];
     let sevens: &[u32] = &[4, 15, 16, 4095, 4096];

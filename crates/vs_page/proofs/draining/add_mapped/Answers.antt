@@ -1,4 +1,4 @@
-use Rattle.std.proofs.Common.{◌≡◌, ◌∙◌, ap, map}
+use Rattle.std.proofs.Common.{◌∙◌, ap, map}
 use Rattle.std.specs.Option.{option_or}
 use Rattle.vs_page.specs.Changes.{says}
 use Rattle.vs_page.proofs.Entries.{change_of, all_listed, says_entries}

@@ -1,4 +1,4 @@
-use Rattle.std.proofs.Common.{◌≡◌, ◌∙◌, arith, ap, length, length-append, [], ◌∷◌}
+use Rattle.std.proofs.Common.{◌≡◌, arith, ap, length, length-append, [], ◌∷◌}
 use Rattle.vs_page.proofs.Listings.{one_listed}
 use Rattle.vs_page.proofs.draining.listed_changes.Goals as goal
 

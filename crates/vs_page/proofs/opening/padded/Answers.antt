@@ -1,4 +1,4 @@
-use Rattle.std.proofs.Common.{◌≡◌, ◌∷◌, [], ◌++◌, length, get_or, arith, ap, length-append, ◌∙◌}
+use Rattle.std.proofs.Common.{◌≡◌, ◌∷◌, [], length, arith, ap, length-append}
 use Rattle.vs_page.proofs.Trees.{pushed_next, all_places}
 use Rattle.vs_page.proofs.opening.padded.Goals as goal
 

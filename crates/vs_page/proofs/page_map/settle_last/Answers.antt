@@ -1,4 +1,3 @@
-use Rattle.std.proofs.Common.{◌≡◌, ◌∙◌}
 use Rattle.vs_page.proofs.Trees.{settle_same}
 use Rattle.vs_page.proofs.page_map.settle_last.Goals as goal
 

@@ -1,4 +1,4 @@
-use Rattle.std.proofs.Common.{◌≡◌, ◌∙◌, ap}
+use Rattle.std.proofs.Common.{◌∙◌, ap}
 use Rattle.std.specs.Prelude.{slice_set}
 use Rattle.vs_page.proofs.Trees.{set_own}
 use Rattle.vs_page.proofs.placing.put_in_branch.Goals as goal

@@ -1,4 +1,4 @@
-use Rattle.std.proofs.Common.{◌≡◌, ◌∙◌, length, ap, sym}
+use Rattle.std.proofs.Common.{◌∙◌, length, ap, sym}
 use Rattle.vs_page.specs.Changes.{items_of}
 use Rattle.vs_page.proofs.FirstItems.{first_long}
 use Rattle.vs_page.proofs.page_list.PageList.len.Goals as goal

@@ -1,4 +1,4 @@
-use Rattle.std.proofs.Common.{◌≡◌, ◌∙◌, ◌+◌, ◌++◌, ◌∷◌, [], length, ap, refl, arith}
+use Rattle.std.proofs.Common.{◌∙◌, ◌+◌, ◌++◌, ◌∷◌, [], length, ap, refl, arith}
 use Rattle.vs_page.specs.Changes.{items_of}
 use Rattle.vs_page.proofs.FirstItems.{first_long, pushed_first}
 use Rattle.vs_page.proofs.page_list.PageList.push.Goals as goal

@@ -1,4 +1,4 @@
-use Rattle.std.proofs.Common.{◌≡◌, ◌<◌, ◌∙◌, ◌-◌, length, ap, arith}
+use Rattle.std.proofs.Common.{◌<◌, ◌∙◌, ◌-◌, length, ap, arith}
 use Rattle.std.specs.Prelude.{swap_remove}
 use Rattle.vs_page.specs.Changes.{items_of}
 use Rattle.vs_page.proofs.FirstItems.{first_long, swapped_first}
