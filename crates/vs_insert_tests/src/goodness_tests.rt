@@ -4,6 +4,7 @@ ghost use Rattle.std.specs.Prelude.{◌≡◌, ◌<◌};
 use super::*;
 use std::alloc::Global;
 use std::marker::Brand;
+use std::process::Abort;
 use std::sync::ledger::{Blank, Ledger};
 use vs_graph::{Edit, InlineBody, LayerLinks, ListNodes, Node, Nodes, Steps};
 use vs_graph_fixtures::attr_of;
@@ -87,147 +88,163 @@ const HIGH: Sketch = Sketch {
     ..A
 };
 
-// Every fault but that of a removal.
-#[test]
-fn faults_are_seen(rt: HostRuntime) -> Result<(), NoMemory> {
-    let table: [(&[Sketch], Option<u32>, Result<(), Fault>); 21] = [
-        (&[A, B], Some(1), Ok(())),
-        (&[HIGH, B], Some(0), Ok(())),
-        (
-            &[
-                Sketch {
-                    words: &[0, 0],
-                    ..A
-                },
-                B,
-            ],
-            Some(0),
-            Err(Fault::Words),
-        ),
-        (&[Sketch { words: &[], ..A }, B], Some(0), Err(Fault::Words)),
-        (
-            &[
-                Sketch {
-                    level: 16,
-                    above: 16,
-                    ..A
-                },
-                B,
-            ],
-            Some(0),
-            Err(Fault::Level),
-        ),
-        (&[Sketch { level: 1, ..A }, B], Some(0), Err(Fault::Lists)),
-        (&[Sketch { above: 1, ..A }, B], Some(0), Err(Fault::Lists)),
-        (&[A, Sketch { name: b"a", ..B }], Some(0), Err(Fault::Name)),
-        (
-            &[
-                Sketch {
-                    links: &[
-                        (0, 1),
-                        (0, 1),
-                        (0, 1),
-                        (0, 1),
-                        (0, 1),
-                        (0, 1),
-                        (0, 1),
-                        (0, 1),
-                        (0, 1),
-                    ],
-                    ..A
-                },
-                B,
-            ],
-            Some(0),
-            Err(Fault::TooManyLinks),
-        ),
-        (
-            &[
-                Sketch {
-                    links: &[(0, 1), (1, 1), (1, 1), (1, 1), (1, 1), (1, 1)],
-                    ..HIGH
-                },
-                B,
-            ],
-            Some(0),
-            Err(Fault::TooManyLinks),
-        ),
-        (
-            &[
-                A,
-                Sketch {
-                    links: &[(0, 0), (0, 0)],
-                    ..B
-                },
-            ],
-            Some(0),
-            Err(Fault::RepeatedLink),
-        ),
-        (
-            &[
-                Sketch {
-                    links: &[(0, 1), (0, 0)],
-                    ..A
-                },
-                B,
-            ],
-            Some(0),
-            Err(Fault::LinkToItself),
-        ),
-        (
-            &[
-                A,
-                Sketch {
-                    links: &[(0, 0), (0, 2)],
-                    ..B
-                },
-            ],
-            Some(0),
-            Err(Fault::LinkToNobody),
-        ),
-        (
-            &[
-                Sketch {
-                    links: &[(0, 1), (1, 1)],
-                    ..HIGH
-                },
-                B,
-            ],
-            Some(0),
-            Err(Fault::LinkToNobody),
-        ),
-        (
-            &[A, Sketch { links: &[], ..B }],
-            Some(0),
-            Err(Fault::LinkOneWay),
-        ),
-        (
-            &[Sketch { links: &[], ..A }, Sketch { links: &[], ..B }],
-            Some(0),
-            Err(Fault::Alone),
-        ),
-        (
-            &[
-                HIGH,
-                Sketch {
-                    level: 1,
-                    above: 1,
-                    ..B
-                },
-            ],
-            Some(0),
-            Err(Fault::Alone),
-        ),
-        (&[A, B], None, Err(Fault::Entry)),
-        (&[A, B], Some(2), Err(Fault::Entry)),
-        (&[HIGH, B], Some(1), Err(Fault::Entry)),
-        (&[Sketch { links: &[], ..A }], Some(0), Err(Fault::Count)),
-    ];
+/// Two members, the entry, and what is wrong with them.
+type Row = (&'static [Sketch], Option<u32>, Result<(), Fault>);
+
+const NODES: [Row; 8] = [
+    (&[A, B], Some(1), Ok(())),
+    (&[HIGH, B], Some(0), Ok(())),
+    (
+        &[
+            Sketch {
+                words: &[0, 0],
+                ..A
+            },
+            B,
+        ],
+        Some(0),
+        Err(Fault::Words),
+    ),
+    (&[Sketch { words: &[], ..A }, B], Some(0), Err(Fault::Words)),
+    (
+        &[
+            Sketch {
+                level: 16,
+                above: 16,
+                ..A
+            },
+            B,
+        ],
+        Some(0),
+        Err(Fault::Level),
+    ),
+    (&[Sketch { level: 1, ..A }, B], Some(0), Err(Fault::Lists)),
+    (&[Sketch { above: 1, ..A }, B], Some(0), Err(Fault::Lists)),
+    (&[A, Sketch { name: b"a", ..B }], Some(0), Err(Fault::Name)),
+];
+
+const LINKS: [Row; 7] = [
+    (
+        &[
+            Sketch {
+                links: &[
+                    (0, 1),
+                    (0, 1),
+                    (0, 1),
+                    (0, 1),
+                    (0, 1),
+                    (0, 1),
+                    (0, 1),
+                    (0, 1),
+                    (0, 1),
+                ],
+                ..A
+            },
+            B,
+        ],
+        Some(0),
+        Err(Fault::TooManyLinks),
+    ),
+    (
+        &[
+            Sketch {
+                links: &[(0, 1), (1, 1), (1, 1), (1, 1), (1, 1), (1, 1)],
+                ..HIGH
+            },
+            B,
+        ],
+        Some(0),
+        Err(Fault::TooManyLinks),
+    ),
+    (
+        &[
+            A,
+            Sketch {
+                links: &[(0, 0), (0, 0)],
+                ..B
+            },
+        ],
+        Some(0),
+        Err(Fault::RepeatedLink),
+    ),
+    (
+        &[
+            Sketch {
+                links: &[(0, 1), (0, 0)],
+                ..A
+            },
+            B,
+        ],
+        Some(0),
+        Err(Fault::LinkToItself),
+    ),
+    (
+        &[
+            A,
+            Sketch {
+                links: &[(0, 0), (0, 2)],
+                ..B
+            },
+        ],
+        Some(0),
+        Err(Fault::LinkToNobody),
+    ),
+    (
+        &[
+            Sketch {
+                links: &[(0, 1), (1, 1)],
+                ..HIGH
+            },
+            B,
+        ],
+        Some(0),
+        Err(Fault::LinkToNobody),
+    ),
+    (
+        &[A, Sketch { links: &[], ..B }],
+        Some(0),
+        Err(Fault::LinkOneWay),
+    ),
+];
+
+const ENTRIES: [Row; 6] = [
+    (
+        &[Sketch { links: &[], ..A }, Sketch { links: &[], ..B }],
+        Some(0),
+        Err(Fault::Alone),
+    ),
+    (
+        &[
+            HIGH,
+            Sketch {
+                level: 1,
+                above: 1,
+                ..B
+            },
+        ],
+        Some(0),
+        Err(Fault::Alone),
+    ),
+    (&[A, B], None, Err(Fault::Entry)),
+    (&[A, B], Some(2), Err(Fault::Entry)),
+    (&[HIGH, B], Some(1), Err(Fault::Entry)),
+    (&[Sketch { links: &[], ..A }], Some(0), Err(Fault::Count)),
+];
+
+fn are_seen<A: Abort>(rt: &A, alloc: Global, table: &[Row]) -> Result<(), NoMemory> {
     for (row, (sketches, entry, expected)) in table.iter().enumerate() {
-        let seen = fault_by::<Brand>(rt.alloc(), sketches, *entry, Blank::new(1))?;
+        let seen = fault_by::<Brand>(alloc, sketches, *entry, Blank::new(1))?;
         assert_eq!(rt; seen, *expected, "in row {row}");
     }
     Ok(())
+}
+
+// Every fault but that of a removal.
+#[test]
+fn faults_are_seen(rt: HostRuntime) -> Result<(), NoMemory> {
+    are_seen(&rt, rt.alloc(), &NODES)?;
+    are_seen(&rt, rt.alloc(), &LINKS)?;
+    are_seen(&rt, rt.alloc(), &ENTRIES)
 }
 
 // As the other, with an attribute.
@@ -249,28 +266,29 @@ fn change_by<L: Ledger>(
     Ok(check_others(&before, &after, 1, &mut reads))
 }
 
+const CHANGES: [(&'static [Sketch], Result<(), Fault>); 9] = [
+    (&[C], Ok(())),
+    (&[Sketch { links: &[], ..C }], Ok(())),
+    (&[C, A], Err(Fault::Change)),
+    (&[], Err(Fault::Change)),
+    (&[Sketch { name: b"c", ..C }], Err(Fault::Change)),
+    (&[Sketch { words: &[1], ..C }], Err(Fault::Change)),
+    (
+        &[Sketch {
+            level: 1,
+            above: 1,
+            ..C
+        }],
+        Err(Fault::Change),
+    ),
+    (&[Sketch { attr: b"[]", ..C }], Err(Fault::Change)),
+    (&[B], Err(Fault::Change)),
+];
+
 // The second member goes; the first is to be as it was but for its links.
 #[test]
 fn changes_are_seen(rt: HostRuntime) -> Result<(), NoMemory> {
-    let table: [(&[Sketch], Result<(), Fault>); 9] = [
-        (&[C], Ok(())),
-        (&[Sketch { links: &[], ..C }], Ok(())),
-        (&[C, A], Err(Fault::Change)),
-        (&[], Err(Fault::Change)),
-        (&[Sketch { name: b"c", ..C }], Err(Fault::Change)),
-        (&[Sketch { words: &[1], ..C }], Err(Fault::Change)),
-        (
-            &[Sketch {
-                level: 1,
-                above: 1,
-                ..C
-            }],
-            Err(Fault::Change),
-        ),
-        (&[Sketch { attr: b"[]", ..C }], Err(Fault::Change)),
-        (&[B], Err(Fault::Change)),
-    ];
-    for (row, (sketches, expected)) in table.iter().enumerate() {
+    for (row, (sketches, expected)) in CHANGES.iter().enumerate() {
         let seen = change_by::<Brand>(rt.alloc(), sketches, Blank::new(1))?;
         assert_eq!(rt; seen, *expected, "in row {row}");
     }

@@ -1,4 +1,4 @@
-use Rattle.vs_insert_tests.proofs.goodness_tests.faults_are_seen.Given as goal
+use Rattle.vs_insert_tests.proofs.goodness_tests.are_seen.Given as goal
 
 -- the counter's own ledger, in one part
 abbrev pub ghosts-fault_by : goal.ghosts-fault_by
