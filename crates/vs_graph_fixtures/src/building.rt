@@ -15,19 +15,22 @@ use vs_graph::{
 use vs_link::link_layer;
 use vs_outside::{NoMemory, Text};
 
+/// An attribute, where the text isn't empty.
+pub fn attr_of(alloc: Global, text: &[u8]) -> Result<Option<RefCounted<Attr>>, NoMemory> {
+    if text.is_empty() {
+        return Ok(None);
+    }
+    let text = Text::from_slice(alloc, text)?;
+    Ok(Some(RefCounted::new(alloc, Attr { text })?))
+}
+
 /// A node of level 0 without links. An empty attribute is none.
 pub fn member(alloc: Global, name: &[u8], words: &[u64], attr: &[u8]) -> Result<Node, NoMemory>
     ensures { IfOk result (IsPlain words.now) }
 {
-    let attr = if attr.is_empty() {
-        None
-    } else {
-        let text = Text::from_slice(alloc, attr)?;
-        Some(RefCounted::new(alloc, Attr { text })?)
-    };
     Ok(Node {
         body: InlineBody::new(alloc, name, words)?,
-        attr,
+        attr: attr_of(alloc, attr)?,
         level: 0,
         links: LayerLinks::new(alloc, 0)?,
     })

@@ -10,8 +10,8 @@ mod searching;
 #[cfg(test)]
 mod tests;
 
-pub use building::{add_member, add_word, member};
+pub use building::{add_member, add_word, attr_of, member};
 pub use counted::Counted;
 pub use picking::{is_new_name, pick};
 pub use plain::{allowed, is_closed, is_in_order, plain_distance, recalled};
-pub use searching::{grown, is_second, search_all, search_second, search_word, word_at};
+pub use searching::{grown, is_second, search, search_all, search_second, word_at};

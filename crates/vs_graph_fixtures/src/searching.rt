@@ -2,6 +2,7 @@
 ghost use Rattle.std.specs.Prelude.{◌≡◌, ◌<◌, IfOk};
 ghost use mathlib.Core.HProp.{IsProp-prop};
 ghost use Rattle.std.specs.Option.{option_copied};
+ghost use Rattle.vs_defs.specs.Words.{FitsDimension};
 ghost use Rattle.vs_rank.specs.Tests.{AnswersOne};
 ghost use Rattle.vs_graph_fixtures.specs.Members.{is_second};
 
@@ -14,11 +15,11 @@ use vs_outside::{List, NoMemory};
 use vs_rank::{Key, Testing, Wanted};
 use vs_slot::Slot;
 
-/// The beam of layer 0 from the entry, in a graph of 64 bits; none of an empty graph.
-pub fn search_word<N: Nodes, F: Testing + Drop, L: Ledger>(
+/// The beam of layer 0 from the entry; none of an empty graph.
+pub fn search<N: Nodes, F: Testing + Drop, L: Ledger>(
     alloc: Global,
     graph: &Graph<N>,
-    word: u64,
+    query: &[u64],
     ef: u32,
     effort: u32,
     test: F,
@@ -28,7 +29,7 @@ pub fn search_word<N: Nodes, F: Testing + Drop, L: Ledger>(
     requires single { IsProp (F.ready test) }
     requires callable { F.ready test }
     requires answers { AnswersOne (F.gives test) }
-    requires dim { graph.now.dim ≡ 64 }
+    requires fits { FitsDimension graph.now.dim query.now }
     requires wide { 0 < ef }
 {
     let Some(entry) = graph.entry() else {
@@ -40,7 +41,7 @@ pub fn search_word<N: Nodes, F: Testing + Drop, L: Ledger>(
         graph,
         0,
         entry,
-        &[word],
+        query,
         ef,
         effort,
         &wanted,
@@ -54,18 +55,18 @@ pub fn search_word<N: Nodes, F: Testing + Drop, L: Ledger>(
 pub fn search_all<N: Nodes, L: Ledger>(
     alloc: Global,
     graph: &Graph<N>,
-    word: u64,
+    query: &[u64],
     ef: u32,
     slot: &mut Slot,
     reads: &mut Steps<L>,
 ) -> Result<Option<Beam>, NoMemory>
-    requires dim { graph.now.dim ≡ 64 }
+    requires fits { FitsDimension graph.now.dim query.now }
     requires wide { 0 < ef }
 {
-    search_word(
+    search(
         alloc,
         graph,
-        word,
+        query,
         ef,
         0,
         |_attr: Option<&[u8]>| true,
@@ -84,7 +85,7 @@ pub fn is_second(attr: Option<&[u8]>) -> bool
     }
 }
 
-/// The same search, of those with the attribute `{"k":2}`.
+/// The same search in a graph of 64 bits, of those with the attribute `{"k":2}`.
 pub fn search_second<N: Nodes, L: Ledger>(
     alloc: Global,
     graph: &Graph<N>,
@@ -95,10 +96,10 @@ pub fn search_second<N: Nodes, L: Ledger>(
 ) -> Result<Option<Beam>, NoMemory>
     requires { graph.now.dim ≡ 64 }
 {
-    search_word(
+    search(
         alloc,
         graph,
-        word,
+        &[word],
         10,
         effort,
         |attr: Option<&[u8]>| is_second(attr),
@@ -134,7 +135,7 @@ fn add_numbered<N: Nodes, L: Ledger>(
     ensures { graph.new.dim ≡ 64 }
 {
     let word = word_at(u64::from(number));
-    let near = match search_all(alloc, graph, word, 8, slot, reads)? {
+    let near = match search_all(alloc, graph, &[word], 8, slot, reads)? {
         Some(beam) => ids_of(alloc, beam.found.as_slice())?,
         None => List::new(alloc),
     };

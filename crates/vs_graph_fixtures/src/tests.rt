@@ -1,11 +1,11 @@
-//! Descents and beams over a graph of test members, compared with plain searches.
+//! Beams over a graph of test members, compared with plain searches.
 ghost use Rattle.std.specs.Prelude.{◌≡◌, ◌<◌};
 
 use super::*;
 use std::alloc::Global;
 use std::marker::Brand;
 use std::sync::ledger::{Blank, Ledger};
-use vs_beam::{Beam, descend};
+use vs_beam::Beam;
 use vs_graph::{Graph, ListNodes, Nodes, Steps};
 use vs_outside::{List, NoMemory};
 use vs_slot::Slot;
@@ -18,7 +18,6 @@ struct Outcome {
     closed: bool,
     gets: u64,
     allowed: u64,
-    descent_gets: u64,
 }
 
 fn seen<L: Ledger>(
@@ -32,19 +31,16 @@ fn seen<L: Ledger>(
 {
     let nodes = graph.nodes();
     let before = nodes.gets();
-    descend(graph, &[word], 1, reads);
-    let between = nodes.gets();
-    let Some(beam) = search_all(alloc, graph, word, 10, slot, reads)? else {
+    let Some(beam) = search_all(alloc, graph, &[word], 10, slot, reads)? else {
         return Ok(None);
     };
-    let gets = nodes.gets().wrapping_sub(between);
+    let gets = nodes.gets().wrapping_sub(before);
     Ok(Some(Outcome {
         recalled: recalled(nodes, &beam, word, 10, reads),
         in_order: is_in_order(nodes, &beam, word, reads),
         closed: is_closed(nodes, &beam, word, 10, reads),
         gets,
         allowed: allowed(nodes, &beam, reads),
-        descent_gets: between.wrapping_sub(before),
     }))
 }
 
@@ -113,7 +109,6 @@ fn beams_in_two_hundred_members(rt: HostRuntime) -> Result<(), NoMemory> {
         assert!(rt; one.in_order);
         assert!(rt; one.closed);
         assert!(rt; one.gets <= one.allowed);
-        assert!(rt; one.descent_gets <= 721);
         recalled = recalled.saturating_add(one.recalled);
     }
     assert!(rt; recalled >= 250, "{recalled} of 500");

@@ -1,2 +1,1 @@
 pub mod Lasting
-pub mod Without

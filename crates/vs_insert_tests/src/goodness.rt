@@ -231,19 +231,28 @@ pub fn check_graph<N: Nodes, L: Ledger>(
     check_nodes(graph.nodes(), graph.entry(), bounds, count, reads)
 }
 
+/// The attribute of a node.
+pub fn attr_text(node: &Node) -> Option<&[u8]> {
+    match &node.attr {
+        Some(attr) => Some(attr.get().text.as_slice()),
+        None => None,
+    }
+}
+
 fn is_same_member(one: Option<&Node>, other: Option<&Node>) -> bool {
     match (one, other) {
         (Some(one), Some(other)) => {
             one.level == other.level
                 && one.body.name() == other.body.name()
                 && one.body.bits() == other.body.bits()
+                && attr_text(one) == attr_text(other)
         }
         (None, None) => true,
         _ => false,
     }
 }
 
-/// Checks that a removed member is gone, and that each other keeps its name, words and level.
+/// Checks that a removed member is gone, and that each other keeps its name, words, level and attribute.
 pub fn check_others<N: Nodes, L: Ledger>(
     before: &N,
     after: &N,

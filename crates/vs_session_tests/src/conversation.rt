@@ -1,6 +1,6 @@
 //! Two ends that know of each other, as those of a client that waits for its replies: the source gives its next bytes only where the sink
 //! holds the replies to all whole messages given so far, and nothing more; else it fails. It fails as well where more than 16,384 bytes
-//! are asked for at once.
+//! are asked for at once. After its first failure it only fails, and the failure is remembered: a server that passes over it is found out.
 ghost use Rattle.std.specs.Prelude.{◌≤◌, None, length, IfSome};
 
 use std::alloc::Global;
@@ -37,21 +37,25 @@ struct Turn {
     replies: Text,
 }
 
-// What both ends share: which turns were given, what is due, and what was written.
+// What both ends share: which turns were given, whether a read has failed, what is due, and what was written.
 #[derive(Drop)]
 struct Conversation {
     turns: List<Turn>,
     given: usize,
+    has_failed: bool,
     due: Text,
     written: Text,
 }
 
 impl Conversation {
-    // The number of bytes of the next turn, which stand in the buffer then; 0 at the end, and None where a read has to fail.
+    // The number of bytes of the next turn, which are in the buffer then; 0 at the end, and None where the read has to fail.
     fn give(&mut self, into: &mut [u8]) -> Option<usize>
         ensures { IfSome result (λ n. n ≤ length into.new) }
     {
-        if into.len() > 16_384 || self.written.as_slice() != self.due.as_slice() {
+        if self.has_failed
+            || into.len() > 16_384
+            || self.written.as_slice() != self.due.as_slice()
+        {
             return None;
         }
         let Some(turn) = self.turns.get(self.given) else {
@@ -68,6 +72,15 @@ impl Conversation {
         self.given = self.given.saturating_add(1);
         Some(piece.len())
     }
+
+    // The same, with a failure remembered.
+    fn take_turn(&mut self, into: &mut [u8]) -> Option<usize>
+        ensures { IfSome result (λ n. n ≤ length into.new) }
+    {
+        let given = self.give(into);
+        self.has_failed = given.is_none();
+        given
+    }
 }
 
 #[derive(Drop)]
@@ -83,7 +96,7 @@ impl Source for Asking {
 
     fn read(&mut self, into: &mut [u8]) -> Took {
         let given = match self.shared.try_borrow_mut() {
-            Ok(mut conversation) => conversation.give(into),
+            Ok(mut conversation) => conversation.take_turn(into),
             Err(_) => None,
         };
         match given {
@@ -154,7 +167,7 @@ fn by_bytes(alloc: Global, exchanges: &[Exchange]) -> Result<List<Turn>, NoMemor
     Ok(turns)
 }
 
-/// Whether a connection with these messages ends so, each reply written before more is read.
+/// Whether a connection with these messages ends so, each reply written before more is read, and no read failed.
 pub fn converses<C: Serve>(
     alloc: Global,
     server: &mut C,
@@ -171,6 +184,7 @@ pub fn converses<C: Serve>(
         RefCell::new(Conversation {
             turns,
             given: 0,
+            has_failed: false,
             due: Text::new(alloc),
             written: Text::new(alloc),
         }),
@@ -191,7 +205,9 @@ pub fn converses<C: Serve>(
         replies.extend_from_slice(reply)?;
     }
     match shared.try_borrow() {
-        Ok(conversation) => Ok(conversation.written.as_slice() == replies.as_slice()),
+        Ok(conversation) => {
+            Ok(!conversation.has_failed && conversation.written.as_slice() == replies.as_slice())
+        }
         Err(_) => Ok(false),
     }
 }

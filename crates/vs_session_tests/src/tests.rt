@@ -98,10 +98,14 @@ fn absent_keys_and_names_have_answers(rt: HostRuntime) -> Result<(), Fail> {
 #[test]
 fn removals_and_attributes_are_kept(rt: HostRuntime) -> Result<(), Fail> {
     let alloc = rt.alloc();
-    let cases: [(&[u8], &[u8]); 3] = [
+    let cases: [(&[u8], &[u8]); 4] = [
         (
             b"VADD|s|VALUES|1|1|a\nVADD|t|VALUES|1|1|a\nEXISTS|s|s|t|u\nDEL|s|s|u\nEXISTS|s|t\nVREM|t|a\nEXISTS|t",
             b":1\r\n:1\r\n:3\r\n:1\r\n:1\r\n:1\r\n:0\r\n",
+        ),
+        (
+            b"VADD|r|VALUES|1|1|a\nVADD|r|VALUES|1|1|b\nVADD|r|VALUES|1|1|c\nVADD|r|VALUES|1|1|d\nVADD|r|VALUES|1|1|e\nVREM|r|d\nVISMEMBER|r|d\nVISMEMBER|r|e\nVCARD|r",
+            b":1\r\n:1\r\n:1\r\n:1\r\n:1\r\n:1\r\n:0\r\n:1\r\n:4\r\n",
         ),
         (
             b"VADD|s|VALUES|1|1|a|SETATTR|x y\nVADD|s|VALUES|1|-1|a\nVGETATTR|s|a\nVSETATTR|s|a|\nVGETATTR|s|a",

@@ -1,7 +1,0 @@
-use Rattle.vs_insert_tests.proofs.growing.add_leaves.Goals as goal
-
-pub loop-leaf-preserved : goal.loop-leaf-preserved
-loop-leaf-preserved g c = record {
-  dim = c.in_ok-add.ensures.dim;
-  kept = λ level chosen are. c.in_ok-add.ensures.kept level chosen (c.loop-leaf.invariant.kept level chosen are);
-}
