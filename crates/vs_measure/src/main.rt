@@ -24,7 +24,8 @@ use std::env;
 use std::marker::Brand;
 use std::sync::ledger::{Blank, Ledger};
 use std::time::CpuClock;
-use vs_graph::{Graph, ListNodes, Nodes, Steps};
+use vs_graph::{Graph, Nodes, Steps};
+use vs_page::PageNodes;
 use vs_slot::Slot;
 
 /// How many a second, by how many there were and the nanoseconds that they took.
@@ -77,7 +78,7 @@ fn measure<R: Print + Eprint + CpuClock + Input + AllocGlobal, L: Ledger>(
     if let Some(line) = lines.next() {
         line?;
     }
-    let Growth { graph, nanos } = grown::<R, ListNodes, L>(
+    let Growth { graph, nanos } = grown::<R, PageNodes, L>(
         rt, alloc, case, &table, &mut slot, &mut reads,
     )?;
     eprintln!(rt; "insertions a second {}", per_second(case.members, nanos))?;
