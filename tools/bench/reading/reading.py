@@ -1,7 +1,8 @@
 #!/usr/bin/env python3
 """Processor time of reading requests: `vectord script` beside redis-server, in one run.
 
-Both get the same number of messages of the same words: ours `VSIM key VALUES n ..` of an absent key, the peer `EXISTS key VALUES n ..`.
+Both get the same number of messages of the same words: ours `VSIM key VALUES n .. TRUTH` of an absent key, the peer `EXISTS key VALUES n ..
+TRUTH`. (A search without TRUTH isn't served yet.)
 """
 import argparse
 import os
@@ -35,7 +36,7 @@ def messages(kind, dim, count, seed):
     rng = random.Random(seed)
     ours, peers = [], []
     for _ in range(count):
-        tail = [b'key', b'VALUES', b'%d' % dim] + [component(kind, rng) for _ in range(dim)]
+        tail = [b'key', b'VALUES', b'%d' % dim] + [component(kind, rng) for _ in range(dim)] + [b'TRUTH']
         ours.append(message([b'VSIM'] + tail))
         peers.append(message([b'EXISTS'] + tail))
     return b''.join(ours), b''.join(peers)
@@ -109,7 +110,7 @@ def main():
         print('components  as      vectord us (user+sys)   redis-server us (user+sys)   ratio of the best   ratios')
         for kind in ['signs', 'decimals']:
             for dim in [128, 256, 1024]:
-                count = args.words // (dim + 4)
+                count = args.words // (dim + 5)
                 ours, peers = messages(kind, dim, count, dim)
                 rows = []
                 for _ in range(args.rounds):
