@@ -60,7 +60,9 @@ fn nodes_of(alloc: Global, sketches: &[Sketch]) -> Result<ListNodes, NoMemory> {
         id = id.saturating_add(1);
     }
     let mut nodes = ListNodes::new(alloc)?;
-    nodes.publish(edit)?;
+    if edit.end() <= 1048576 {
+        nodes.publish(edit)?;
+    }
     Ok(nodes)
 }
 

@@ -10,7 +10,9 @@ unlink-requires-clause-good g c =
     let s = c.args.graph.now in
     let same : base ≡ g.N.Nodes.at s.nodes = ap g.N.Nodes.at c.nodes-nodes.ensures.nodes in (
       s.m,
-      s.dim,
-      c.nodes-nodes.ensures.good.dim_high,
-      links_over (overwritten c.new-edit.result base) (g.N.Nodes.at s.nodes) s.m s.m s.dim (no_change c.new-edit.result base c.new-edit.ensures ∙ same) refl c.nodes-nodes.ensures.good.links,
+      (
+        s.dim,
+        c.nodes-nodes.ensures.good.dim_high,
+        links_over (overwritten c.new-edit.result base) (g.N.Nodes.at s.nodes) s.m s.m s.dim (no_change c.new-edit.result base c.new-edit.ensures ∙ same) refl c.nodes-nodes.ensures.good.links,
+      ),
     )
