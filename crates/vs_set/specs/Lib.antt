@@ -1,0 +1,5 @@
+pub mod Kept
+pub mod Changed
+pub mod Drafted
+pub mod Found
+pub mod Placed
