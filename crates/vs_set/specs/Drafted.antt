@@ -2,7 +2,7 @@
 --     IsDraft x body level ef draft      what a preparation in the set gives
 --     MayCommit x draft                  what a draft that isn't stale keeps in the set as it is now
 --     Commits draft attr old new         what a commit makes of the set
-use Rattle.std.specs.Prelude.{◌≡◌, ◌≤◌, ℕ, All, Some, option_map}
+use Rattle.std.specs.Prelude.{◌≡◌, ◌≤◌, ℕ, All, Some, None, option_map}
 use Rattle.std.specs.declared.option.Option.{Option}
 use Rattle.vs_defs.specs.Bytes.{Bytes}
 use Rattle.vs_defs.specs.Words.{FitsDimension, bits_of_words}
