@@ -3,3 +3,5 @@ pub mod Changed
 pub mod Drafted
 pub mod Found
 pub mod Placed
+pub mod Grown
+pub mod Again

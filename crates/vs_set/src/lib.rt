@@ -8,9 +8,11 @@ mod committing;
 mod drafting;
 mod error;
 mod finding;
+mod growing;
 mod placing;
 mod reading;
 mod removing;
+mod replacing;
 mod set;
 mod snap;
 
