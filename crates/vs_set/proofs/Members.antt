@@ -5,6 +5,7 @@
 --     sound            a set whose graph is good is sound
 --     named_empty      no entries are those of an empty graph
 --     fresh_name       a name that is no member is no live node's
+--     is_some_of_map   whether there is one, of what is made of it
 use Rattle.std.proofs.Common.{◌≡◌, ◌≢◌, inl, inr, subst, ℕ, zero, suc, ◌<◌, ◌+◌, ◌^◌, Bool, true, false, not, cond, List, [], ◌∷◌, ◌++◌, ◌≤◌, length, map, refl, sym, ap, ◌∙◌, arith, get_or, is_some}
 use Rattle.std.specs.Prelude.{All, option_map, position, Option, Some, None, IfSome, IsSome, nat_lt, nat_eq, ◌||◌}
 use Rattle.std.specs.List.{position_or_len, list_any}
@@ -28,7 +29,7 @@ position_of_map : {X Y : Type 0} (p : Y → Bool) (f : X → Y) (xs : List X) �
 position_of_map p f [] = refl
 position_of_map p f (x ∷ xs) = ap (λ n. cond (not (p (f x))) (1 + n) 0) (position_of_map p f xs)
 
-is_some_of_map : {X Y : Type 0} (f : X → Y) (o : Option X) → is_some (option_map f o) ≡ is_some o
+pub is_some_of_map : {X Y : Type 0} (f : X → Y) (o : Option X) → is_some (option_map f o) ≡ is_some o
 is_some_of_map f None = refl
 is_some_of_map f (Some x) = refl
 
