@@ -15,7 +15,7 @@ use Rattle.vs_graph.specs.declared.node.Body.{Body}
 use Rattle.vs_graph.specs.Named.{is_live}
 use Rattle.vs_graph.specs.Standing.{AreIds, members_of, name_of}
 use Rattle.vs_unlink.specs.Unlinked.{bare}
-use Rattle.vs_unlink.proofs.Layers.{body_bare}
+use Rattle.vs_unlink.proofs.Bare.{body_bare}
 use Rattle.vs_insert.specs.declared.draft.Draft.{Draft}
 use Rattle.vs_insert.specs.Added.{IsAdded}
 use Rattle.vs_insert.specs.Chosen.{drafted_member}

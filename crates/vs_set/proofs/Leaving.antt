@@ -16,8 +16,8 @@ use Rattle.vs_graph.specs.Replaced.{IsSameGraph, IsReplaced}
 use Rattle.vs_graph.specs.Seen.{Seen}
 use Rattle.vs_graph.specs.Standing.{name_of}
 use Rattle.vs_insert.specs.Removed.{RemovesByNames}
-use Rattle.vs_insert.proofs.Bare.{live_bare}
 use Rattle.vs_unlink.specs.Unlinked.{IsWithout}
+use Rattle.vs_unlink.proofs.Bare.{live_bare}
 use Rattle.vs_set.specs.Again.{IsOut}
 use Rattle.vs_set.proofs.Growth.{name_kept}
 

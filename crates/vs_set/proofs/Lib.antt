@@ -7,3 +7,5 @@ pub mod Leaving
 pub mod Sames
 pub mod Keeping
 pub mod Given
+pub mod Places
+pub mod Removal
