@@ -9,3 +9,5 @@ pub mod Keeping
 pub mod Given
 pub mod Places
 pub mod Removal
+pub mod Retaking
+pub mod Drafts

@@ -6,3 +6,4 @@ pub mod Placed
 pub mod Grown
 pub mod Again
 pub mod Given
+pub mod Retaken
