@@ -1,0 +1,62 @@
+-- A set after the commit of a draft.
+--     kept_committed      it is kept
+--     commits             it is what the definitions make of it
+use Rattle.std.proofs.Common.{◌≡◌, ℕ, ◌+◌, List, [], ◌∷◌, ◌++◌, refl, sym, ap, ◌∙◌, subst, arith, is_some}
+use Rattle.std.specs.Prelude.{None, option_map}
+use Rattle.std.specs.declared.option.Option.{Option}
+use Rattle.std.proofs.lemmas.List.{map-append}
+use Rattle.vs_defs.specs.Bytes.{Bytes}
+use Rattle.vs_defs.specs.Words.{bits_of_words}
+use Rattle.vs_defs.specs.Store.{Member, with_member}
+use Rattle.vs_defs.specs.PlainStep.{attr_after}
+use Rattle.vs_defs.specs.Insertion.{IsLinkedBy}
+use Rattle.vs_graph.specs.declared.node.Node.{Node}
+use Rattle.vs_graph.specs.declared.node.Attr.{Attr}
+use Rattle.vs_graph.specs.Seen.{Seen}
+use Rattle.vs_graph.specs.Standing.{AreIds, members_of, set_of}
+use Rattle.vs_insert.specs.declared.draft.Draft.{Draft}
+use Rattle.vs_insert.specs.Added.{IsAdded, entry_after}
+use Rattle.vs_insert.specs.Drafts.{names_down}
+use Rattle.vs_order.specs.Entries.{Entries, ids_of}
+use Rattle.vs_set.specs.Kept.{set_by, AreNamed, IsKept, one_if}
+use Rattle.vs_set.specs.Drafted.{Commits}
+use Rattle.vs_set.specs.Retaken.{retaken_draft}
+use Rattle.vs_set.proofs.Growth.{named_grown, counted_grown}
+use Rattle.vs_set.proofs.Retaking.{down_same}
+
+module _ {N : Type 0} (at : N → ℕ → Option Node) (s t : Seen N) (id : ℕ) (attr : Option Attr) (draft : Draft) (entries : Entries) (added : IsAdded (at s.nodes) (at t.nodes) s.entry s.m s.dim id attr (retaken_draft entries draft))
+    (named : AreNamed (at s.nodes) entries) where
+  abbrev pub all : Entries
+  all = entries ++ (draft.body.name, id) ∷ []
+
+  ids_all : ids_of all ≡ ids_of entries ++ id ∷ []
+  ids_all = map-append (λ (x : Bytes × ℕ). x.1) entries ((draft.body.name, id) ∷ [])
+
+  pub kept_committed : at s.nodes id ≡ None → t.dim ≡ s.dim → (order : Entries) (attributes : ℕ) → IsKept (at s.nodes) s.dim entries order attributes
+      → (after later : Entries) (n : ℕ) → after ≡ all → later ≡ all → n ≡ attributes + one_if (is_some attr) → IsKept (at t.nodes) t.dim after later n
+  kept_committed free dim_is order attributes kept after later n is_after is_later is_n =
+      subst (λ d. IsKept (at t.nodes) d after later n) (sym dim_is)
+      (subst (λ es. IsKept (at t.nodes) s.dim es later n) (sym is_after)
+      (subst (λ es. IsKept (at t.nodes) s.dim all es n) (sym is_later)
+      (record {
+        named = named_grown (at s.nodes) (at t.nodes) s.entry s.m s.dim id attr (retaken_draft entries draft) added entries named free;
+        same = refl;
+        counted = omega (arith, is_n, kept.counted, counted_grown (at s.nodes) (at t.nodes) s.entry s.m s.dim id attr (retaken_draft entries draft) added entries named free);
+      })))
+
+  pub commits : (text : Option Bytes) → option_map (λ (a : Attr). a.text) attr ≡ attr_after text None → t.entry ≡ entry_after (at s.nodes) s.entry id draft.level → (cut : ℕ)
+      → Commits draft text (set_by (at s.nodes) s.entry s.m s.dim cut entries) (set_by (at t.nodes) t.entry s.m s.dim cut all)
+  commits text text_is entry_is cut =
+      let ids = ids_of entries in
+      let before = members_of (at s.nodes) s.dim ids in
+      let old = set_by (at s.nodes) s.entry s.m s.dim cut entries in
+      record {
+        contents =
+            ap (λ (ms : List Member). record { dim = s.dim; m = s.m; cut = cut; members = ms })
+            (ap (members_of (at t.nodes) s.dim) ids_all ∙ added.members ids named.ids
+            ∙ ap (λ a. with_member (record { name = draft.body.name; bits = bits_of_words s.dim draft.body.bits; attr = a; level = draft.level }) before) text_is);
+        linked =
+            subst (λ ns. IsLinkedBy old draft.body.name draft.level ns (set_by (at t.nodes) t.entry s.m s.dim cut all)) (down_same entries draft.chosen)
+            (subst (λ e. IsLinkedBy old draft.body.name draft.level (names_down (retaken_draft entries draft).chosen) (set_by (at t.nodes) e s.m s.dim cut all)) (sym entry_is)
+            (added.linked cut cut ids (ids_of all) named.ids (subst (AreIds (at t.nodes)) (sym ids_all) (added.last ids named.ids))));
+      }

@@ -1,0 +1,44 @@
+-- A set that has grown by a member, or whose member was replaced, is kept.
+use Rattle.std.proofs.Common.{◌≡◌, ℕ, ◌+◌, Bool, List, [], ◌∷◌, ◌++◌, refl, sym, ap, subst, arith, is_some}
+use Rattle.std.specs.Prelude.{None}
+use Rattle.std.specs.declared.option.Option.{Option}
+use Rattle.vs_defs.specs.Bytes.{Bytes}
+use Rattle.vs_defs.specs.Request.{Add}
+use Rattle.vs_graph.specs.declared.node.Node.{Node}
+use Rattle.vs_graph.specs.Seen.{Seen}
+use Rattle.vs_graph.specs.Standing.{members_of}
+use Rattle.vs_order.specs.Entries.{Entries, ids_of}
+use Rattle.vs_set.specs.Kept.{AreNamed, IsKept, attribute_count, one_if}
+use Rattle.vs_set.specs.Grown.{IsGrown}
+use Rattle.vs_set.proofs.Added.{name_is}
+use Rattle.vs_set.proofs.Growth.{named_grown, counted_grown}
+
+module _ {N : Type 0} (at : N → ℕ → Option Node) (s t : Seen N) (id : ℕ) (add : Add) (had : Option Bytes) (level : ℕ) (has : Bool) (g : IsGrown at s t id add had level has)
+    (entries order : Entries) (attributes : ℕ) (kept : IsKept (at s.nodes) s.dim entries order attributes) (free : at s.nodes id ≡ None) where
+  abbrev pub all : Entries
+  all = entries ++ (add.name, id) ∷ []
+
+  as_named : entries ++ (g.inserted.draft.body.name, id) ∷ [] ≡ all
+  as_named = ap (λ n. entries ++ (n, id) ∷ []) (name_is at s t id add had level has g)
+
+  counts : (n : ℕ) → n ≡ attributes + one_if has → n ≡ attribute_count (members_of (at t.nodes) s.dim (ids_of all))
+  counts n is =
+      omega (
+        arith,
+        is,
+        kept.counted,
+        counted_grown (at s.nodes) (at t.nodes) s.entry s.m s.dim id g.attr g.inserted.draft g.inserted.added entries kept.named free,
+        ap one_if g.has_is,
+        ap (λ es. attribute_count (members_of (at t.nodes) s.dim (ids_of es))) as_named,
+      )
+
+  pub kept_grown : (after later : Entries) (n : ℕ) → after ≡ all → later ≡ all → n ≡ attributes + one_if has → IsKept (at t.nodes) t.dim after later n
+  kept_grown after later n is_after is_later is_n =
+      subst (λ d. IsKept (at t.nodes) d after later n) (sym g.inserted.dim)
+      (subst (λ es. IsKept (at t.nodes) s.dim es later n) (sym is_after)
+      (subst (λ es. IsKept (at t.nodes) s.dim all es n) (sym is_later)
+      (record {
+        named = subst (AreNamed (at t.nodes)) as_named (named_grown (at s.nodes) (at t.nodes) s.entry s.m s.dim id g.attr g.inserted.draft g.inserted.added entries kept.named free);
+        same = refl;
+        counted = counts n is_n;
+      })))

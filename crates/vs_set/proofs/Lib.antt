@@ -1,0 +1,13 @@
+pub mod Members
+pub mod Counting
+pub mod Growth
+pub mod Added
+pub mod Replacement
+pub mod Leaving
+pub mod Sames
+pub mod Keeping
+pub mod Given
+pub mod Places
+pub mod Removal
+pub mod Retaking
+pub mod Drafts
