@@ -6,3 +6,4 @@ pub mod Replacement
 pub mod Leaving
 pub mod Sames
 pub mod Keeping
+pub mod Standing
