@@ -7,3 +7,4 @@ pub mod Leaving
 pub mod Sames
 pub mod Keeping
 pub mod Standing
+pub mod Prepared
