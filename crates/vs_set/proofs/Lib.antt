@@ -8,3 +8,5 @@ pub mod Sames
 pub mod Keeping
 pub mod Standing
 pub mod Prepared
+pub mod Firsts
+pub mod Nearness

@@ -73,3 +73,11 @@ top_level at entry m dim cut entries e node good are is there =
     ∙ ap (λ n. Some n)
     (ap (λ o. unwrap_or (option_map (λ (y : Member). y.level) o) 0) (member_there at m dim (ids_of entries) good are e (are.live e ∙ ap is_some there))
     ∙ ap (λ o. (option_map_or (member_of_node dim) o no_member).level) there)
+
+-- ---- a place is within
+
+pub within_get : {X : Type 0} (xs : List X) (k : ℕ) (P : X → Type 0) → IsSomeAnd (slice_get xs k) P → k < length xs
+within_get {X} xs k P h = by (slice_get xs k) refl h where
+  by : (o : Option X) → slice_get xs k ≡ o → IsSomeAnd o P → k < length xs
+  by None e h = absurd h
+  by (Some x) e h = slice_get_within xs k x e

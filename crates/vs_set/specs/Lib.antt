@@ -5,3 +5,4 @@ pub mod Found
 pub mod Placed
 pub mod Grown
 pub mod Again
+pub mod Firsts
