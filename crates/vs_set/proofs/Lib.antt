@@ -10,3 +10,4 @@ pub mod Standing
 pub mod Prepared
 pub mod Firsts
 pub mod Nearness
+pub mod Around

@@ -54,7 +54,7 @@ apart : (n : ℕ) (xs : List Key) → AllByRecursion (λ y. nat_eq n y ≡ false
 apart n [] h = tt
 apart n (x ∷ xs) h = (eqb-false n x.id h.0, apart n xs h.1)
 
-once_from : (xs : List Key) → IsDistinct nat_eq (map (λ (key : Key). key.id) xs) → KeysOnce xs
+pub once_from : (xs : List Key) → IsDistinct nat_eq (map (λ (key : Key). key.id) xs) → KeysOnce xs
 once_from [] d = tt
 once_from (x ∷ xs) d =
     let ids = map (λ (key : Key). key.id) xs in
@@ -86,11 +86,11 @@ once_take zero xs h = tt
 once_take (suc n) [] h = tt
 once_take (suc n) (x ∷ xs) h = (all_take (λ (j : Key). x.id ≢ j.id) n xs h.0, once_take n xs h.1)
 
-ids_keys : (at : ℕ → Option Node) (query : List ℕ) (tried : List ℕ) → map (λ (key : Key). key.id) (map (key_at at query) tried) ≡ tried
+pub ids_keys : (at : ℕ → Option Node) (query : List ℕ) (tried : List ℕ) → map (λ (key : Key). key.id) (map (key_at at query) tried) ≡ tried
 ids_keys at query [] = refl
 ids_keys at query (x ∷ xs) = ap (λ l. x ∷ l) (ids_keys at query xs)
 
-live_stander : (layer : ℕ) (o : Option Node) → IsSomeAnd o (λ node. layer ≤ node.level) → is_some o ≡ true
+pub live_stander : (layer : ℕ) (o : Option Node) → IsSomeAnd o (λ node. layer ≤ node.level) → is_some o ≡ true
 live_stander layer None h = absurd h
 live_stander layer (Some node) h = refl
 
@@ -174,7 +174,7 @@ module _ (at : ℕ → Option Node) (entry : Option ℕ) (m dim : ℕ) (good : I
   rows_once [] h are = tt
   rows_once (k ∷ ks) h are = (names_apart k ks are.0.0 h.0 are.1, rows_once ks h.1 are.1)
 
-  members_are : (keys : List Key) → AllByRecursion IsKey keys → map member_in (map row keys) ≡ members_named ms (keys_named at keys)
+  pub members_are : (keys : List Key) → AllByRecursion IsKey keys → map member_in (map row keys) ≡ members_named ms (keys_named at keys)
   members_are [] h = refl
   members_are (k ∷ ks) h = λ t. cons_option (sym (member_there at m dim (ids_of entries) good.links named.ids k.id h.0.0) t) (members_are ks h.1 t)
 
@@ -197,7 +197,7 @@ module _ (at : ℕ → Option Node) (entry : Option ℕ) (m dim : ℕ) (good : I
   keys_are layer [] stand is = tt
   keys_are layer (k ∷ ks) stand is = (key_is layer k stand.0 is.0, keys_are layer ks stand.1 is.1)
 
-  lives : (layer : ℕ) (keys : List Key) → AllByRecursion (λ (key : Key). StandsAt at layer key.id) keys → AllByRecursion (λ (key : Key). is_taken key.id entries ≡ true) keys
+  pub lives : (layer : ℕ) (keys : List Key) → AllByRecursion (λ (key : Key). StandsAt at layer key.id) keys → AllByRecursion (λ (key : Key). is_taken key.id entries ≡ true) keys
   lives layer [] stand = tt
   lives layer (k ∷ ks) stand = (named.ids.live k.id ∙ live_stander layer (at k.id) stand.0, lives layer ks stand.1)
 

@@ -81,3 +81,12 @@ within_get {X} xs k P h = by (slice_get xs k) refl h where
   by : (o : Option X) → slice_get xs k ≡ o → IsSomeAnd o P → k < length xs
   by None e h = absurd h
   by (Some x) e h = slice_get_within xs k x e
+
+-- ---- what holds of the member of whatever node is there
+
+pub place_has : (at : ℕ → Option Node) (m dim : ℕ) (entries : Entries) (named : AreNamed at entries) (k id : ℕ) (there : IsSomeAnd (slice_get entries k) (λ e. id ≡ e.1)) (P : Member → Type 0)
+    → ((node : Node) → at id ≡ Some node → P (member_of_node dim node)) → IsSomeAnd (slice_get (members_of at dim (ids_of entries)) k) P
+place_has at m dim entries named k id there P f = by (at id) refl (live_place at m dim entries named k id there) where
+  by : (o : Option Node) → at id ≡ o → IsSome o → IsSomeAnd (slice_get (members_of at dim (ids_of entries)) k) P
+  by None e live = absurd (both_ways false refl live)
+  by (Some node) e live = has at m dim entries named k id there P node e (f node e)

@@ -12,7 +12,11 @@ use vs_graph::{Graph, Node, Nodes, Steps};
 use vs_truth::Members;
 
 /// The node of a live id.
-fn node_at<'a, N: Nodes, L: Ledger>(graph: &'a Graph<N>, id: u32, reads: &mut Steps<L>) -> &'a Node
+pub(crate) fn node_at<'a, N: Nodes, L: Ledger>(
+    graph: &'a Graph<N>,
+    id: u32,
+    reads: &mut Steps<L>,
+) -> &'a Node
     requires { IsSome (N.at graph.now.nodes id) }
     ensures node { N.at graph.entry.now.nodes id ≡ Some result.now }
     ensures words { FitsDimension graph.entry.now.dim result.now.body.bits }
