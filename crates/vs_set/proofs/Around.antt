@@ -1,6 +1,6 @@
 -- Whom a member is linked to, in the order of its links and in the members' order.
-use Rattle.std.proofs.Common.{◌≡◌, ℕ, ◌≤◌, Bool, true, false, List, [], ◌∷◌, length, map, take, refl, sym, ap, ◌∙◌, subst, arith, inl, inr, is_some, take_all}
-use Rattle.std.specs.Prelude.{Option, Some, None, IsSome, IfSome, IsSomeAnd, All, filter, option_map, nat_eq, slice_get}
+use Rattle.std.proofs.Common.{◌≡◌, ℕ, ◌≤◌, true, false, List, [], ◌∷◌, length, map, take, refl, sym, ap, ◌∙◌, subst, arith, inl, inr, take_all}
+use Rattle.std.specs.Prelude.{Option, Some, None, IsSome, IfSome, All, filter, option_map, nat_eq}
 use Rattle.std.specs.Option.{option_map_or}
 use Rattle.std.specs.List.{AllByRecursion, IsDistinct, list_any}
 use Rattle.std.specs.List.Sorted.{IsPermutation}
@@ -19,13 +19,13 @@ use Rattle.vs_graph.specs.declared.node.Node.{Node}
 use Rattle.vs_graph.specs.Bodies.{words_at}
 use Rattle.vs_graph.specs.Good.{body_at, layers_at, links_at, most_links, StandsAt, IsGood, IsGoodNode}
 use Rattle.vs_graph.specs.Named.{is_live}
-use Rattle.vs_graph.specs.Standing.{member_of_node, member_at, members_of, name_of, named_links}
+use Rattle.vs_graph.specs.Standing.{member_of_node, members_of, name_of, named_links}
 use Rattle.vs_graph.specs.Table.{is_in}
 use Rattle.vs_graph.proofs.Goods.{contains_from, table_from}
 use Rattle.vs_graph.proofs.Sorts.{In, in_filter, from_filter, in_from_test, test_from_in}
 use Rattle.vs_graph.proofs.Naming.{neighbours_are, stands_first}
 use Rattle.vs_graph.proofs.Lists.{distinct_filter}
-use Rattle.vs_graph.proofs.Standing.{are_members, are_named, bits_there, member_name}
+use Rattle.vs_graph.proofs.Standing.{are_members, are_named, bits_there}
 use Rattle.vs_rank.specs.declared.Key.{Key}
 use Rattle.vs_rank.proofs.Sorted.{sort_permuted, sort_permutes}
 use Rattle.vs_beam.specs.Beam.{key_at}

@@ -3,7 +3,7 @@
 --     name_place                 the name at a place is the member's
 --     keeps_bits                 words that fit keep the member's bits
 --     nobody, top_level          the entry: there is one where there are members, and its level
-use Rattle.std.proofs.Common.{◌≡◌, ℕ, ◌<◌, Bool, true, false, List, [], ◌∷◌, length, map, refl, sym, ap, ◌∙◌, subst, arith, is_some}
+use Rattle.std.proofs.Common.{◌≡◌, ℕ, ◌<◌, false, List, [], ◌∷◌, length, refl, sym, ap, ◌∙◌, subst, arith, is_some}
 use Rattle.std.specs.Prelude.{Option, Some, None, IsSome, IsSomeAnd, option_map, slice_get, unwrap_or, nat_eq, ◌||◌}
 use Rattle.std.specs.Option.{option_map_or}
 use Rattle.std.specs.List.{list_any}

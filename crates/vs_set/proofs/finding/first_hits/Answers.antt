@@ -1,8 +1,7 @@
-use Rattle.std.proofs.Common.{◌≡◌, ◌+◌, ◌<◌, ◌≤◌, length, take, min, map, sym, ap, ◌∙◌, arith}
-use Rattle.vs_defs.specs.Bytes.{place_by}
+use Rattle.std.proofs.Common.{◌≡◌, map, sym, ap, ◌∙◌, arith}
 use Rattle.vs_order.specs.Entries.{name_at}
 use Rattle.vs_order.proofs.Places.{name_here}
-use Rattle.vs_truth.specs.Nears.{near_cmp, near_hit, candidate_hit}
+use Rattle.vs_truth.specs.Nears.{near_hit, candidate_hit}
 use Rattle.vs_set.proofs.Firsts.{one_more, all_of, hits_seen}
 use Rattle.vs_set.proofs.Standing.{within_get}
 use Rattle.vs_set.proofs.finding.first_hits.Goals as goal

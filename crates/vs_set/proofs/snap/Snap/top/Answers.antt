@@ -1,5 +1,5 @@
-use Rattle.std.proofs.Common.{◌≡◌, ◌<◌, length, sym, ap, ◌∙◌, subst}
-use Rattle.std.specs.Prelude.{Some, None, option_map}
+use Rattle.std.proofs.Common.{◌≡◌, ◌<◌, length, sym, ◌∙◌, subst}
+use Rattle.std.specs.Prelude.{Some, option_map}
 use Rattle.vs_defs.specs.Beam.{level_at}
 use Rattle.vs_graph.specs.Good.{IsEntry}
 use Rattle.vs_order.specs.Entries.{ids_of}
