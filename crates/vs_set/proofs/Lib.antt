@@ -11,3 +11,8 @@ pub mod Places
 pub mod Removal
 pub mod Retaking
 pub mod Drafts
+pub mod Standing
+pub mod Prepared
+pub mod Firsts
+pub mod Nearness
+pub mod Around

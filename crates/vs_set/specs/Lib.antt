@@ -7,3 +7,4 @@ pub mod Grown
 pub mod Again
 pub mod Given
 pub mod Retaken
+pub mod Firsts

@@ -4,10 +4,9 @@ ghost use Rattle.vs_defs.specs.Words.{FitsDimension};
 ghost use Rattle.vs_set.specs.Drafted.{IsDraft};
 
 use crate::Snap;
-use std::alloc::AllocError;
 use std::sync::ledger::Ledger;
 use vs_graph::{InlineBody, Nodes, Steps};
-use vs_insert::Draft;
+use vs_insert::{Draft, prepare};
 use vs_outside::NoMemory;
 use vs_slot::Slot;
 
@@ -27,6 +26,17 @@ impl<N: Nodes> Snap<N> {
         requires wide { 1 ≤ ef }
         ensures { IfOk result (λ draft. IsDraft self.now body level ef draft) }
     {
-        Err(AllocError)
+        let _nodes = self.graph.nodes();
+        let draft = prepare(
+            self.alloc,
+            &self.graph,
+            self.cut,
+            body,
+            level,
+            ef,
+            slot,
+            reads,
+        )?;
+        Ok(draft)
     }
 }

@@ -1,8 +1,9 @@
 //! The members of a snapshot by their places. A member's name and its place are found without its node.
-ghost use Rattle.std.specs.Prelude.{◌≡◌, ◌<◌, Some, IsSome, IsSomeAnd, length, option_map, position, slice_get};
+ghost use Rattle.std.specs.Prelude.{◌≡◌, ◌<◌, ◌+◌, Some, IsSome, IsSomeAnd, length, option_map, position, slice_get};
 ghost use Rattle.std.specs.Option.{option_copied};
 ghost use Rattle.vs_defs.specs.Beam.{level_at};
 ghost use Rattle.vs_defs.specs.Store.{is_of_name};
+ghost use Rattle.vs_defs.specs.Words.{FitsDimension};
 
 use crate::Snap;
 use std::marker::Brand;
@@ -11,9 +12,15 @@ use vs_graph::{Graph, Node, Nodes, Steps};
 use vs_truth::Members;
 
 /// The node of a live id.
-fn node_at<'a, N: Nodes, L: Ledger>(graph: &'a Graph<N>, id: u32, reads: &mut Steps<L>) -> &'a Node
+pub(crate) fn node_at<'a, N: Nodes, L: Ledger>(
+    graph: &'a Graph<N>,
+    id: u32,
+    reads: &mut Steps<L>,
+) -> &'a Node
     requires { IsSome (N.at graph.now.nodes id) }
-    ensures { N.at graph.entry.now.nodes id ≡ Some result.now }
+    ensures node { N.at graph.entry.now.nodes id ≡ Some result.now }
+    ensures words { FitsDimension graph.entry.now.dim result.now.body.bits }
+    ensures told { reads.new ≡ reads.old + 1 }
 {
     match graph.nodes().get(id, reads) {
         Some(node) => node,
@@ -82,6 +89,7 @@ impl<N: Nodes> Snap<N> {
         requires { 0 < length self.now.contents.members }
         ensures { option_map (level_at self.now) self.now.wiring.entry ≡ Some result }
     {
+        let _nodes = self.graph.nodes();
         match self.graph.entry() {
             Some(entry) => node_of::<N, Brand>(&self.graph, entry, Blank::new(1)).level,
             None => unreachable!(),

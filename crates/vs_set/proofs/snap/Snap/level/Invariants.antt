@@ -1,0 +1,5 @@
+use Rattle.vs_set.proofs.snap.Snap.level.Given as goal
+
+-- the counter's ledger is the one that the blank names
+abbrev pub ghosts-node_of : goal.ghosts-node_of
+ghosts-node_of g a = record { name = a.blank.name; parts = 1 }
