@@ -19,7 +19,7 @@ mod snap;
 pub use error::SetCommitError;
 pub use set::Set;
 pub use snap::Snap;
-use vs_graph::ListNodes;
+use vs_page::PageNodes;
 
 /// The nodes of the sets that the store keeps.
-pub type Kept = ListNodes;
+pub type Kept = PageNodes;
