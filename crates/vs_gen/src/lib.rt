@@ -11,8 +11,8 @@ use itoa::Buffer;
 use rand_pcg::Lcg64Xsh32;
 use std::alloc::Global;
 use std::marker::Model;
-use vs_random_words::{draw, generator};
 use vs_outside::{List, NoMemory, Text};
+use vs_random_words::{draw, generator};
 
 #[cfg(test)]
 mod tests;

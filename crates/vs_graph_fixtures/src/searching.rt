@@ -37,16 +37,7 @@ pub fn search<N: Nodes, F: Testing + Drop, L: Ledger>(
     };
     let wanted = Wanted::new(test);
     let found = beam(
-        alloc,
-        graph,
-        0,
-        entry,
-        query,
-        ef,
-        effort,
-        &wanted,
-        slot,
-        reads,
+        alloc, graph, 0, entry, query, ef, effort, &wanted, slot, reads,
     )?;
     Ok(Some(found))
 }
