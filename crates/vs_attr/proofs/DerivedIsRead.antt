@@ -1,13 +1,14 @@
 -- What the grammar derives is read by the definition's reader.
 use Rattle.std.proofs.Common.{◌≡◌, ℕ, suc, ◌+◌, ◌-◌, ◌*◌, ◌≤◌, ◌==◌, Bool, true, false, cond, ◌||◌, List, [], ◌∷◌, ◌++◌, Option, Some, None, length, drop, take, refl, ap, sym, ◌∙◌, subst, arith, option_map, option_and_then, codes, nat_lt}
 use Rattle.std.specs.Char.{is_ascii_digit}
-use Rattle.std.proofs.lemmas.Bool.{false≢true}
+use Rattle.std.proofs.lemmas.Bool.{eqb-true, false≢true}
 use Rattle.std.proofs.lemmas.Bool.Decides.{nat_tests}
+use Rattle.std.proofs.Math.Bool.{or-true}
 use Rattle.vs_defs.specs.Bytes.{Bytes}
 use Rattle.vs_defs.specs.Numeral as numeral
 use Rattle.vs_defs.specs.Numeral.{begins_with, digits_of, after_digits, is_empty, without}
 use Rattle.vs_defs.specs.Json as json
-use Rattle.vs_defs.specs.Json.{Json, Items, Members, Front, Piece, bytes_of, is_space, skip_space, mark_at, is_whole_part, after_fraction, after_exponent, after_number, number_at, piece_at, escape_at, unit_at, code_unit, short_escape, plain_value_at, whole_value, value_within, json_of}
+use Rattle.vs_defs.specs.Json.{Json, Items, Members, Front, Piece, bytes_of, is_space, skip_space, mark_at, is_whole_part, after_fraction, after_exponent, after_number, number_at, piece_at, escape_at, unit_at, code_unit, short_escape, whole_value, value_within, json_of}
 use Rattle.vs_attr.specs.Reading.{pieces_at, value_at, items_at, members_at, rest_of, value_of, string_at, inner_at, member_at, value_from}
 use Rattle.vs_attr.specs.Grammar as grammar
 use Rattle.vs_attr.specs.Grammar.{Space, no_space, space, Mark, Digits, Whole, Fraction, Sign, Exponent, Unsigned, Number, Chars, Text, Value, Values, Pairs, Derived}
@@ -15,7 +16,7 @@ use Rattle.vs_attr.proofs.Strings.{inner_by, pieces_end, pieces_next}
 use Rattle.vs_attr.proofs.Turns.{value_whole, items_is, members_is}
 use Rattle.vs_attr.proofs.Bodies.{on_mark}
 use Rattle.vs_attr.proofs.Values.{value_from_is, items_read, member_whole, members_at_comma, members_at_last}
-use Rattle.vs_attr.proofs.FirstByte.{plain_number, head_is}
+use Rattle.vs_attr.proofs.FirstByte.{plain_number}
 use Rattle.vs_attr.proofs.ReadIsDerived.{head_none, head_some, after_head, some_byte, number_taken}
 
 -- ---- white space and marks
@@ -154,12 +155,8 @@ number_end (grammar.minus h) n = unsigned_end h n
 abbrev NumberHead : ℕ → Type 0
 NumberHead c = ((c == 45) || is_ascii_digit c) ≡ true
 
-or_true : (v : Bool) → (v || true) ≡ true
-or_true true = refl
-or_true false = refl
-
 digit_head : (c : ℕ) → is_ascii_digit c ≡ true → NumberHead c
-digit_head c e = rw e (or_true (c == 45))
+digit_head c e = rw e (or-true (c == 45))
 
 number_first : {s r : Bytes} → Number s r → (c : ℕ) × (t : Bytes) × (s ≡ c ∷ t) × NumberHead c
 number_first (grammar.plus (grammar.unsigned (grammar.zero_alone {r}) f x)) = (48, r, refl, refl)
@@ -169,7 +166,7 @@ number_first (grammar.minus {s} h) = (45, s, refl, refl)
 head_not_by : (c b : ℕ) (v : Bool) → (c == b) ≡ v → NumberHead c → ((b == 45) || is_ascii_digit b) ≡ false → v ≡ false
 head_not_by c b false e h g = refl
 head_not_by c b true e h g =
-    let k : c ≡ b = head_is c b e in
+    let k : c ≡ b = eqb-true c b e in
     absurd (false≢true (sym g ∙ subst (λ x. ((x == 45) || is_ascii_digit x) ≡ true) k h))
 
 head_not : (c b : ℕ) → NumberHead c → ((b == 45) || is_ascii_digit b) ≡ false → (c == b) ≡ false

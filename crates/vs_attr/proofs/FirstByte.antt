@@ -3,7 +3,7 @@ use Rattle.std.proofs.Common.{◌≡◌, ℕ, zero, suc, ◌+◌, ◌-◌, ◌*�
 use Rattle.std.specs.Str.{IsUtf8, is_utf8}
 use Rattle.std.proofs.lemmas.Str.{is_utf8-from_IsUtf8, IsUtf8-from_is_utf8}
 use Rattle.std.specs.List.{starts_with}
-use Rattle.std.proofs.lemmas.Bool.{false≢true}
+use Rattle.std.proofs.lemmas.Bool.{eqb-true, false≢true}
 use Rattle.std.proofs.lemmas.Bool.Decides.{nat_tests}
 use Rattle.vs_defs.specs.Bytes.{Bytes, first_in}
 use Rattle.vs_defs.specs.Numeral.{begins_with, is_empty}
@@ -63,20 +63,17 @@ or_none : {A : Type 0} (o : Front A) → or_front o None ≡ o
 or_none None = refl
 or_none (Some p) = refl
 
-pub head_is : (c b : ℕ) → (c == b) ≡ true → c ≡ b
-head_is c b h = grind (arith, nat_tests)
-
 head_other : (c b : ℕ) → (c == b) ≡ false → nat_eq b c ≡ false
 head_other c b h = grind (arith, nat_tests)
 
 plain_null : (c : ℕ) (cs : Bytes) → (c == 110) ≡ true → plain_value_at (c ∷ cs) ≡ word_at (codes "null") json.Null (c ∷ cs)
-plain_null c cs e = let h : c ≡ 110 = head_is c 110 e in rw h (or_none _)
+plain_null c cs e = let h : c ≡ 110 = eqb-true c 110 e in rw h (or_none _)
 
 plain_true : (c : ℕ) (cs : Bytes) → (c == 116) ≡ true → plain_value_at (c ∷ cs) ≡ word_at (codes "true") (json.Truth true) (c ∷ cs)
-plain_true c cs e = let h : c ≡ 116 = head_is c 116 e in rw h (or_none _)
+plain_true c cs e = let h : c ≡ 116 = eqb-true c 116 e in rw h (or_none _)
 
 plain_false : (c : ℕ) (cs : Bytes) → (c == 102) ≡ true → plain_value_at (c ∷ cs) ≡ word_at (codes "false") (json.Truth false) (c ∷ cs)
-plain_false c cs e = let h : c ≡ 102 = head_is c 102 e in rw h (or_none _)
+plain_false c cs e = let h : c ≡ 102 = eqb-true c 102 e in rw h (or_none _)
 
 pub plain_number : (c : ℕ) (cs : Bytes) → (c == 110) ≡ false → (c == 116) ≡ false → (c == 102) ≡ false → plain_value_at (c ∷ cs) ≡ number_at (c ∷ cs)
 plain_number c cs n r f =
@@ -158,7 +155,7 @@ kind_at d t j e = OnRead-value (λ j. single_of j ≡ single_from (skip_space t)
 -- ---- lists
 
 head_hit_by : (b c : ℕ) (cs inside : Bytes) (v : Bool) → (c == b) ≡ v → cond v (Some cs) None ≡ Some inside → (c ∷ cs) ≡ b ∷ inside
-head_hit_by b c cs inside true h e = let g : cs ≡ inside = cc in rw (head_is c b h, g) refl
+head_hit_by b c cs inside true h e = let g : cs ≡ inside = cc in rw (eqb-true c b h, g) refl
 head_hit_by b c cs inside false h e = absurd (cc)
 
 pub head_hit : (b : ℕ) (s inside : Bytes) → cond (begins_with b s) (Some (drop 1 s)) None ≡ Some inside → s ≡ b ∷ inside

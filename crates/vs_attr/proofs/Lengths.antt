@@ -1,10 +1,11 @@
 -- What is read leaves no more than was there.
-use Rattle.std.proofs.Common.{◌≡◌, ℕ, zero, suc, ◌<◌, ◌≤◌, ◌==◌, true, false, cond, ◌||◌, List, [], ◌∷◌, Option, Some, None, length, drop, ap, arith, option_map, option_and_then, length-drop, codes, nat_lt}
+use Rattle.std.proofs.Common.{◌≡◌, ℕ, zero, suc, ◌<◌, ◌≤◌, ◌==◌, true, false, cond, ◌||◌, List, [], ◌∷◌, Option, Some, None, length, drop, ap, arith, option_map, option_and_then, codes, nat_lt}
 use Rattle.std.specs.List.{starts_with}
 use Rattle.std.specs.Bool.{nat_eq}
 use Rattle.vs_defs.specs.Bytes.{Bytes}
 use Rattle.vs_defs.specs.Numeral.{begins_with, without, unsigned, digits_of, after_digits, is_empty}
 use Rattle.vs_defs.specs.Json.{Json, Null, Truth, Text, Array, Object, Items, no_items, item, Members, no_members, member, Front, Piece, plain, unit, mark_at, skip_space, is_space, piece_at, escape_at, unit_at, code_unit, short_escape, plain_value_at, word_at, or_front, after_number, after_fraction, after_exponent, is_whole_part, bytes_of, pieces_within, value_within, items_within, members_within}
+use Rattle.vs_defs.proofs.StreamLaws.{drop_leaves}
 use Rattle.vs_attr.proofs.Bodies.{on_mark, on_depth, value_body, items_body, members_body}
 
 -- what is left, where something was read, has at most n bytes
@@ -97,9 +98,6 @@ Rest-bind : (m n : ℕ) (o : Option Bytes) (f : Bytes → Option Bytes) → Rest
 Rest-bind m n None f s h = tt
 Rest-bind m n (Some r) f s h = h r s
 
-drop_le : (n : ℕ) (t : Bytes) → length (drop n t) ≤ length t
-drop_le n t = omega (arith, length-drop n t)
-
 without_le : (b : ℕ) (t : Bytes) → length (without b t) ≤ length t
 without_le b [] = omega arith
 without_le b (c ∷ cs) = elim (c == b) as (λ v. length (cond v cs (c ∷ cs)) ≤ length (c ∷ cs)) [ true ↦ omega arith | false ↦ omega arith ]
@@ -111,7 +109,7 @@ unsigned_le (c ∷ cs) = elim ((c == 43) || (c == 45)) as (λ v. length (cond v 
 fraction_rest : (t : Bytes) → Rest (length t) (after_fraction t)
 fraction_rest [] = omega arith
 fraction_rest (c ∷ cs) =
-    let h : length (after_digits cs) ≤ length cs = drop_le (length (digits_of cs)) cs in
+    let h : length (after_digits cs) ≤ length cs = drop_leaves (length (digits_of cs)) cs in
     elim (c == 46) as (λ v. Rest (length (c ∷ cs)) (cond v (cond (is_empty (digits_of cs)) None (Some (after_digits cs))) (Some (c ∷ cs)))) [
       | true ↦ elim (is_empty (digits_of cs)) as (λ v. Rest (length (c ∷ cs)) (cond v None (Some (after_digits cs)))) [ true ↦ tt | false ↦ omega arith ]
       | false ↦ omega arith
@@ -120,7 +118,7 @@ fraction_rest (c ∷ cs) =
 exponent_rest : (t : Bytes) → Rest (length t) (after_exponent t)
 exponent_rest [] = omega arith
 exponent_rest (c ∷ cs) =
-    let h : length (after_digits (unsigned cs)) ≤ length (unsigned cs) = drop_le (length (digits_of (unsigned cs))) (unsigned cs) in
+    let h : length (after_digits (unsigned cs)) ≤ length (unsigned cs) = drop_leaves (length (digits_of (unsigned cs))) (unsigned cs) in
     let g : length (unsigned cs) ≤ length cs = unsigned_le cs in
     elim ((c == 101) || (c == 69)) as (λ v. Rest (length (c ∷ cs)) (cond v (cond (is_empty (digits_of (unsigned cs))) None (Some (after_digits (unsigned cs)))) (Some (c ∷ cs)))) [
       | true ↦ elim (is_empty (digits_of (unsigned cs))) as (λ v. Rest (length (c ∷ cs)) (cond v None (Some (after_digits (unsigned cs))))) [ true ↦ tt | false ↦ omega arith ]
@@ -130,7 +128,7 @@ exponent_rest (c ∷ cs) =
 pub number_rest : (t : Bytes) → Rest (length t) (after_number t)
 number_rest t =
     let body = without 45 t in
-    let h : length (after_digits (without 45 t)) ≤ length (without 45 t) = drop_le (length (digits_of (without 45 t))) (without 45 t) in
+    let h : length (after_digits (without 45 t)) ≤ length (without 45 t) = drop_leaves (length (digits_of (without 45 t))) (without 45 t) in
     let g : length (without 45 t) ≤ length t = without_le 45 t in
     elim (is_whole_part (digits_of (without 45 t))) as (λ v. Rest (length t) (cond v (option_and_then after_exponent (after_fraction (after_digits (without 45 t)))) None)) [
       | true ↦ Rest-bind (length (after_digits (without 45 t))) (length t) (after_fraction (after_digits (without 45 t))) after_exponent (fraction_rest (after_digits (without 45 t)))
@@ -140,7 +138,7 @@ number_rest t =
 
 word_leaves : (w : Bytes) (j : Json) (t : Bytes) → Leaves (length t) (word_at w j t)
 word_leaves w j t =
-    let h : length (drop (length w) t) ≤ length t = drop_le (length w) t in
+    let h : length (drop (length w) t) ≤ length t = drop_leaves (length w) t in
     elim (starts_with nat_eq t w) as (λ v. Leaves (length t) (cond v (Some (j, drop (length w) t)) None)) [ true ↦ h | false ↦ tt ]
 
 pub plain_leaves : (t : Bytes) → Leaves (length t) (plain_value_at t)

@@ -3,15 +3,15 @@ use Rattle.std.proofs.Common.{◌≡◌, ℕ, zero, suc, ◌+◌, ◌-◌, ◌*�
 use Rattle.std.specs.List.{starts_with, prefix_len}
 use Rattle.std.specs.Char.{is_ascii_digit}
 use Rattle.std.specs.Str.{is_utf8}
-use Rattle.std.proofs.lemmas.Bool.{false≢true}
+use Rattle.std.proofs.lemmas.Bool.{eqb-true, false≢true}
 use Rattle.std.proofs.lemmas.Bool.Decides.{nat_tests}
 use Rattle.std.proofs.lemmas.List.{take-append-drop, take_at}
 use lib.Pointwise.{bytes_decides}
 use Rattle.vs_defs.specs.Bytes.{Bytes}
 use Rattle.vs_defs.specs.Numeral as numeral
-use Rattle.vs_defs.specs.Numeral.{begins_with, digits_of, after_digits, is_empty, without}
+use Rattle.vs_defs.specs.Numeral.{digits_of, after_digits, is_empty}
 use Rattle.vs_defs.specs.Json as json
-use Rattle.vs_defs.specs.Json.{Json, Items, Members, Front, Piece, bytes_of, is_space, skip_space, mark_at, is_whole_part, after_fraction, after_exponent, after_number, number_at, piece_at, escape_at, unit_at, code_unit, short_escape, plain_value_at, word_at, or_front, pieces_within, value_within, items_within, members_within, whole_value, json_of}
+use Rattle.vs_defs.specs.Json.{Json, Items, Members, Front, Piece, bytes_of, is_space, skip_space, mark_at, is_whole_part, after_fraction, after_exponent, after_number, piece_at, escape_at, unit_at, code_unit, short_escape, plain_value_at, word_at, or_front, pieces_within, value_within, items_within, members_within, whole_value, json_of}
 use Rattle.vs_attr.specs.Grammar as grammar
 use Rattle.vs_attr.specs.Grammar.{Space, no_space, space, Digits, Whole, Fraction, Sign, Exponent, Unsigned, Number, Chars, Value, Values, Pairs, Derived}
 use Rattle.vs_attr.proofs.Bodies.{on_mark, on_depth, value_body, items_body, members_body}
@@ -220,9 +220,6 @@ abbrev PieceOk : Bytes → Front Piece → Type 0
 PieceOk s None = Unit {0}
 PieceOk s (Some p) = (ps : List Piece) (e : Bytes) → Chars ps p.1 e → Chars (p.0 ∷ ps) s e
 
-head_is : (c b : ℕ) → (c == b) ≡ true → c ≡ b
-head_is c b h = grind (arith, nat_tests)
-
 unit_ok_by : (a b c d : ℕ) (rest : Bytes) (o : Option ℕ) → code_unit a b c d ≡ o → PieceOk (92 ∷ 117 ∷ a ∷ b ∷ c ∷ d ∷ rest) (option_map (λ u. (json.unit u, rest)) o)
 unit_ok_by a b c d rest None e = tt
 unit_ok_by a b c d rest (Some u) e = λ ps end h. grammar.unit_escaped a b c d u e h
@@ -239,7 +236,7 @@ short_ok c cs None n e = tt
 short_ok c cs (Some b) n e = λ ps end h. grammar.escaped c b n e h
 
 escape_ok_by : (c : ℕ) (cs : Bytes) (v : Bool) → (c == 117) ≡ v → PieceOk (92 ∷ c ∷ cs) (cond v (unit_at cs) (option_map (λ b. (json.plain b, cs)) (short_escape c)))
-escape_ok_by c cs true e = subst (λ x. PieceOk (92 ∷ x ∷ cs) (unit_at cs)) (sym (head_is c 117 e)) (unit_ok cs)
+escape_ok_by c cs true e = subst (λ x. PieceOk (92 ∷ x ∷ cs) (unit_at cs)) (sym (eqb-true c 117 e)) (unit_ok cs)
 escape_ok_by c cs false e = short_ok c cs (short_escape c) e refl
 
 escape_ok : (t : Bytes) → PieceOk (92 ∷ t) (escape_at t)
@@ -254,7 +251,7 @@ plain_ok c cs true q b e = tt
 plain_ok c cs false q b e = λ ps end h. grammar.unescaped c (not_control c e) q b h
 
 piece_ok_by : (c : ℕ) (cs : Bytes) (v : Bool) → (c == 34) ≡ false → (c == 92) ≡ v → PieceOk (c ∷ cs) (cond v (escape_at cs) (cond (nat_lt c 32) None (Some (json.plain c, cs))))
-piece_ok_by c cs true q e = subst (λ x. PieceOk (x ∷ cs) (escape_at cs)) (sym (head_is c 92 e)) (escape_ok cs)
+piece_ok_by c cs true q e = subst (λ x. PieceOk (x ∷ cs) (escape_at cs)) (sym (eqb-true c 92 e)) (escape_ok cs)
 piece_ok_by c cs false q e = plain_ok c cs (nat_lt c 32) q e refl
 
 piece_ok : (c : ℕ) (cs : Bytes) → (c == 34) ≡ false → PieceOk (c ∷ cs) (piece_at (c ∷ cs))
@@ -275,7 +272,7 @@ abbrev pieces_choice : Bool → Bytes → Front (List Piece) → Front (List Pie
 pieces_choice v cs more = elim v [ true ↦ Some ([], cs) | false ↦ more ]
 
 pieces_by : (c : ℕ) (cs : Bytes) (P : Bytes → Front (List Piece)) (v : Bool) → (c == 34) ≡ v → ((t : Bytes) → Reads (CharsTo t) (P t)) → Reads (CharsTo (c ∷ cs)) (pieces_choice v cs (option_and_then (λ p. option_map (λ q. (p.0 ∷ q.0, q.1)) (P p.1)) (piece_at (c ∷ cs))))
-pieces_by c cs P true e f = subst (λ x. Chars [] (x ∷ cs) (34 ∷ cs)) (sym (head_is c 34 e)) grammar.no_chars
+pieces_by c cs P true e f = subst (λ x. Chars [] (x ∷ cs) (34 ∷ cs)) (sym (eqb-true c 34 e)) grammar.no_chars
 pieces_by c cs P false e f = more_reads (c ∷ cs) P (piece_at (c ∷ cs)) (piece_ok c cs e) f
 
 pieces_read : (k : ℕ) (t : Bytes) → Reads (CharsTo t) (pieces_within k t)

@@ -30,7 +30,7 @@ use Rattle.vs_graph.specs.Standing.{AreIds, member_of_node, member_at, members_o
 use Rattle.vs_graph.proofs.Goods.{contains_from, test_from}
 use Rattle.vs_graph.proofs.Standing.{names_differ, member_there, bits_there, are_named, names_once, degree}
 use Rattle.vs_graph.proofs.NodeLaws.{words_same, fits_node}
-use Rattle.vs_graph.proofs.CommonLaws.{no_layers}
+use Rattle.vs_defs.proofs.LayerLaws.{no_layers}
 use Rattle.vs_rank.specs.declared.Key.{Key}
 use Rattle.vs_rank.specs.Tests.{Attribute}
 use Rattle.vs_beam.specs.Beam.{ranked, IsKnown, IsBeam, IsDescent}

@@ -16,7 +16,7 @@ use Rattle.std.proofs.lemmas.List.Sums.{count_by-le-length}
 use Rattle.std.proofs.lemmas.Option.{slice_get-get_or}
 use Rattle.vs_graph.specs.declared.node.Node.{Node}
 use Rattle.vs_graph.specs.Good.{IsLinked, StandsAt}
-use Rattle.vs_graph.proofs.CommonLaws.{nat_eq_flips}
+use Rattle.vs_laws.proofs.Tests.{nat_eq_flips}
 use Rattle.vs_rank.specs.declared.Key.{Key}
 use Rattle.vs_rank.specs.Tests.{Attribute}
 use Rattle.vs_rank.specs.Ranked.{Least, key_lt, with_key, sorted_keys, is_beyond}

@@ -1,15 +1,15 @@
 -- Texts that are numerals, up to a place; and words that are filled with their bits.
-use Rattle.std.proofs.Common.{◌≡◌, ℕ, zero, suc, ◌+◌, ◌-◌, ◌*◌, ◌%◌, ◌^◌, ◌<◌, ◌≤◌, Bool, true, false, cond, List, [], ◌∷◌, ◌++◌, map, length, take, drop, get_or, refl, sym, ap, ap₂, ◌∙◌, arith, min, subst, inl, inr, ◌⊎◌, Option, Some, None, option_map}
+use Rattle.std.proofs.Common.{◌≡◌, ℕ, zero, suc, ◌+◌, ◌-◌, ◌*◌, ◌%◌, ◌^◌, ◌<◌, ◌≤◌, Bool, true, false, cond, List, [], ◌∷◌, ◌++◌, map, length, take, drop, get_or, refl, sym, ap, ◌∙◌, arith, min, subst, inl, inr, Option, Some, None, option_map}
 use Rattle.std.specs.List.{prefix_len}
 use Rattle.std.specs.Prelude.{option_and_then, bit_or}
 use mir.Val.{bool_byte}
 use Rattle.std.proofs.lemmas.Bool.{cases_lt}
 use Rattle.std.proofs.lemmas.List.{length-map, take-map, drop-map, get_or-map, take-append-drop}
-use Rattle.std.proofs.lemmas.List.Sums.{prefix_len_passes, prefix_len_stops, prefix_len-le-length}
+use Rattle.std.proofs.lemmas.List.Sums.{prefix_len_passes, prefix_len_stops}
 use Rattle.vs_defs.specs.Bytes.{Bytes}
 use Rattle.vs_defs.specs.Numeral.{Sign, sign_of, bit_of, bits_of, is_numeral}
 use Rattle.vs_defs.specs.Words.{words_for, bits_of_words}
-use Rattle.vs_bits.specs.Components.{bit_when, plus_in, IsFirstBad}
+use Rattle.vs_bits.specs.Components.{bit_when, plus_in}
 use Rattle.vs_bits.specs.Packed.{IsWordOf, AreWordsOf}
 use Rattle.vs_bits.proofs.Packing.{bits_all, words_all, bit_more, word_more as more}
 

@@ -1,6 +1,7 @@
 //! A vector from its components, which are numerals: each one's sign is read straight into its place of a word.
 ghost use Rattle.std.specs.Prelude.{◌≡◌, ◌≤◌, length, map, Some, IfOk, IfErr, OnOk};
 ghost use Rattle.std.specs.List.{prefix_len};
+ghost use Rattle.vs_defs.specs.Limits.{max_dimension};
 ghost use Rattle.vs_defs.specs.Numeral.{bits_of, is_numeral};
 ghost use Rattle.vs_bits.specs.Components.{plus_in, IsFirstBad, Refuses};
 ghost use Rattle.vs_bits.specs.Packed.{IsWordOf};
@@ -49,7 +50,7 @@ impl Bits {
     /// A bit for each numeral, 1 exactly for those greater than zero. It takes memory once.
     pub fn from_numerals(alloc: Global, numerals: &[Text]) -> Result<Bits, ComponentsError>
         requires some { 1 ≤ length numerals.now }
-        requires few { length numerals.now ≤ 32768 }
+        requires few { length numerals.now ≤ max_dimension }
         ensures bits { IfOk result (λ bits. bits_of numerals.now ≡ Some bits) }
         ensures len { IfOk result (λ bits. length bits ≡ length numerals.now) }
         ensures refused { IfErr result (λ error. Refuses error numerals.now) }

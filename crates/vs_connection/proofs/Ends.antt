@@ -1,7 +1,6 @@
 -- How a connection ends, from what was answered.
-use Rattle.std.proofs.Common.{◌≡◌, inl, inr, ℕ, Bool, true, false, List, [], ◌++◌, Option, Some, None, Ok, Err, refl, sym, ap, subst, ◌∙◌, append_assoc, append-nil, ◌≤◌, ◌+◌, ◌^◌, length, length-append, take, arith}
+use Rattle.std.proofs.Common.{◌≡◌, inl, inr, ℕ, Bool, true, false, List, [], ◌++◌, Option, Some, None, Ok, Err, refl, sym, ap, subst, ◌∙◌, append_assoc, append-nil, ◌≤◌, ◌+◌, ◌^◌, length, length-append, arith}
 use Rattle.std.specs.Prelude.{MatchBool}
-use Rattle.std.proofs.lemmas.Grind.{common_steps}
 use Rattle.rand_pcg.specs.Lcg.{Lcg}
 use Rattle.vs_defs.specs.Bytes.{Bytes}
 use Rattle.vs_defs.specs.Stream.{Message, End, Splits, with_words, place_in, Border, Within, Broken}
@@ -52,9 +51,6 @@ no_fault : (input : Bytes) (ms : List Message) (e : End) → Splits true input m
 no_fault input ms Border splits begins = tt
 no_fault input ms Within splits begins = tt
 no_fault input ms (Broken f rest) splits begins = begins_no_fault true input f (place_in input rest) begins (ms, rest, splits, refl)
-
-pub length_take_le : (n : ℕ) (xs : Bytes) → n ≤ length xs → length (take n xs) ≡ n
-length_take_le n xs fits = grind (arith, common_steps)
 
 module _ {H : Type 0} {call : CallOn H} {k : ℕ} where
   -- ---- before the first byte

@@ -3,6 +3,7 @@
 
 ghost use Rattle.std.specs.Prelude.{◌≡◌, List, ℕ, ◌+◌, ◌-◌, ◌*◌, ◌/◌, ◌%◌, ◌≤◌, ◌<◌, ◌++◌, ◌∷◌, [], take, length, codes};
 ghost use Rattle.vs_defs.specs.Decimal.{score_text as score_of, nine_digits};
+ghost use Rattle.vs_defs.specs.Limits.{max_dimension};
 
 use std::marker::Model;
 
@@ -73,7 +74,7 @@ fn fraction(billionths: u64) -> ScoreText
 pub fn score_text(differ: u32, dim: u32) -> ScoreText
     requires within { differ ≤ dim }
     requires some { 1 ≤ dim }
-    requires most { dim ≤ 32768 }
+    requires most { dim ≤ max_dimension }
     ensures { result ≡ score_of differ dim }
 {
     if differ == 0 {

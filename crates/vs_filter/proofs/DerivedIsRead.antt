@@ -1,13 +1,13 @@
 -- What the grammar derives is read by the definition's reader, with as many turns as it takes.
 use Rattle.std.proofs.Common.{◌≡◌, ◌==◌, ◌+◌, ◌*◌, ◌≤◌, ◌<◌, ℕ, zero, suc, true, false, cond, List, [], ◌∷◌, length, Some, None, Ok, refl, ap, sym, ◌∙◌, subst, arith}
-use Rattle.std.proofs.lemmas.Bool.{false≢true}
+use Rattle.std.proofs.lemmas.Bool.{eq-eqb, false≢true}
 use Rattle.std.proofs.lemmas.Bool.Decides.{nat_tests}
 use Rattle.vs_defs.specs.Bytes.{Bytes}
 use Rattle.vs_defs.specs.AttributeField.{Single}
 use Rattle.vs_defs.specs.Filter as filter
 use Rattle.vs_defs.specs.Filter.{Operator, Expr}
 use Rattle.vs_defs.specs.FilterText as text
-use Rattle.vs_defs.specs.FilterText.{Token, Tokens, Parse, Rule, or_rule, and_rule, not_rule, comparison_rule, sum_rule, term_rule, factor_rule, tighter, rule_of, rule_number, operator_at, of_rule, then_parse, closing, deeper, next, rest_of, literal_at, literals_within, list_at, is_comma, is_close_list, is_close, expr_within, more_within, whole, whole_by, filter_of, tokens_of}
+use Rattle.vs_defs.specs.FilterText.{Tokens, Rule, or_rule, and_rule, not_rule, comparison_rule, sum_rule, term_rule, factor_rule, tighter, rule_number, operator_at, then_parse, closing, next, rest_of, literal_at, literals_within, is_comma, is_close_list, is_close, expr_within, more_within, whole, whole_by, filter_of, tokens_of}
 use Rattle.vs_filter.specs.Grammar as grammar
 use Rattle.vs_filter.specs.Grammar.{Between, Literal, Literals, Spells, Joined, joins, Derived}
 use Rattle.vs_filter.proofs.ReadIsDerived.{after_literal, list_of, further, compared}
@@ -67,15 +67,12 @@ Free n s = (rule : Rule) → n ≤ rule_number rule → operator_at rule s ≡ N
 tighter_free : {n m : ℕ} (s : Tokens) → n ≤ m → Free n s → Free m s
 tighter_free s h f = λ rule le. f rule (omega (arith, h, le))
 
-same_test : (n : ℕ) → (n == n) ≡ true
-same_test n = grind (arith, nat_tests)
-
 other_test : (m n : ℕ) → suc m ≤ n → (m == n) ≡ false
 other_test m n h = grind (arith, nat_tests)
 
 -- an operator in front is one of its rule alone
 between_is : {rule : Rule} {op : Operator} {s r : Tokens} → Between rule op s r → (operator_at rule s ≡ Some op) × (rest_of s ≡ r)
-between_is (grammar.operator rule at op e) = (ap (λ v. cond v (Some op) None) (ap (λ q. rule_number q == rule_number rule) e ∙ same_test (rule_number rule)), refl)
+between_is (grammar.operator rule at op e) = (ap (λ v. cond v (Some op) None) (ap (λ q. rule_number q == rule_number rule) e ∙ eq-eqb (rule_number rule) (rule_number rule) refl), refl)
 between_is (grammar.minus at) = (refl, refl)
 
 between_free : {rule : Rule} {op : Operator} {s r : Tokens} → Between rule op s r → Free (suc (rule_number rule)) s

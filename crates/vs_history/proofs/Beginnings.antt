@@ -17,17 +17,6 @@ prefix_push xs x = (x ∷ [], refl)
 pub prefix_length : {A : Type 0} (xs ys : List A) → IsPrefix xs ys → length xs ≤ length ys
 prefix_length xs ys p = omega (arith, sym (ap length p.1) ∙ length-append xs p.0)
 
-pub empty_of_length : {A : Type 0} (xs : List A) → length xs ≡ 0 → xs ≡ []
-empty_of_length [] e = refl
-empty_of_length (x ∷ xs) e = absurd (omega arith)
-
--- a list that ends in an element ends in no other
-pub same_last : {A : Type 0} (xs ys : List A) (x y : A) → xs ++ x ∷ [] ≡ ys ++ y ∷ [] → (xs ≡ ys) × (x ≡ y)
-same_last [] [] x y e = (refl, cc e)
-same_last [] (b ∷ ys) x y e = let n = ap length e in let m = length-append ys (y ∷ []) in absurd (omega arith)
-same_last (a ∷ xs) [] x y e = let n = ap length e in let m = length-append xs (x ∷ []) in absurd (omega arith)
-same_last (a ∷ xs) (b ∷ ys) x y e = let r = same_last xs ys x y (cc e) in (cc (e, r.0), r.1)
-
 -- a fact of each element, by its place: after one is set, and after one is put last
 pub each_set : {A : Type 0} (P : ℕ → A → Type 0) (l : List A) (i : ℕ) (a : A) → ((j : ℕ) (b : A) → j ≢ i → get_elem? l j ≡ some b → P j b) → P i a → (j : ℕ) (b : A) → get_elem? (set l i a) j ≡ some b → P j b
 each_set P l i a others mine j b e = ⊎_elim (λ (t : (j ≡ i) × (a ≡ b)). subst (λ (x : ℕ). P x b) (sym t.0) (subst (P i) t.1 mine)) (λ (t : (j ≢ i) × (get_elem? l j ≡ some b)). others j b t.0 t.1) (at_set l i j a b e)

@@ -18,7 +18,8 @@ use Rattle.vs_defs.specs.History.{Entry, Preparation, LegalAfter, own}
 use Rattle.vs_thread_defs.specs.Machine.{GraphHistory, GraphLegal, GraphCall, DraftFits, Follows, IsGoodThroughout, StoreDoes, store_of}
 use Rattle.vs_thread_defs.specs.Passes.{OfItsChange, Watches}
 use Rattle.vs_history.specs.Work.{Work, entry_of, answer_in, DoesBy, Did, Closed}
-use Rattle.vs_history.proofs.Beginnings.{prefix_trans, prefix_push, same_last}
+use Rattle.vs_history.proofs.Beginnings.{prefix_trans, prefix_push}
+use Rattle.std.proofs.lemmas.List.{same_from_push}
 use Rattle.vs_history.proofs.Histories.{store_push, legal_begin, legal_push, own-push-own}
 
 module _ (limits : Limits) where
@@ -167,6 +168,6 @@ module _ (limits : Limits) where
       let a = ap length more in let b = ap length grown in let c = ap length own_s in
       absurd (omega (arith, a, b, c, length-append (own n before) (e ∷ []), length-append (own n s) (own n rest))))
       (λ (grown : t ≡ log ++ entry_of n w ∷ []).
-      let parts = same_last log before (entry_of n w) e (sym grown ∙ is) in
+      let parts = same_from_push log before (entry_of n w) e (sym grown ∙ is) in
       subst (λ x. P before x) parts.1 (subst (λ h. P h (entry_of n w)) parts.0 holds))
       closed.grows

@@ -6,7 +6,8 @@ use Rattle.std.proofs.lemmas.Bool.Decides.{nat_tests}
 use mathlib.Core.List.{IsPrefix}
 use Rattle.vs_defs.specs.History.{History, Entry, LegalAfter, Legal, own, store_after}
 use Rattle.vs_thread_defs.specs.Rule.{longer, AllBegin, AuthorsBelow}
-use Rattle.vs_history.proofs.Beginnings.{prefix_self, prefix_trans, empty_of_length}
+use Rattle.vs_history.proofs.Beginnings.{prefix_self, prefix_trans}
+use Rattle.std.proofs.lemmas.List.{nil_from_length}
 
 module _ {S : Type 0} where
   -- after one more entry the store is the one that it leaves
@@ -41,7 +42,7 @@ module _ {S : Type 0} where
       let log_is : mine ≡ own n ys ++ own n q.0 = sym high ∙ ap (own n) (sym q.1) ∙ own-append n ys q.0 in
       let a = ap length ys_are ∙ length-append mine (own n p.0) in
       let b = ap length log_is ∙ length-append (own n ys) (own n q.0) in
-      let none : own n p.0 ≡ [] = empty_of_length (own n p.0) (omega arith) in
+      let none : own n p.0 ≡ [] = nil_from_length (own n p.0) (omega arith) in
       ys_are ∙ ap (λ l. mine ++ l) none ∙ append-nil mine
 
   one_own : (n : ℕ) (e : Entry S) → e.author ≡ n → own n (e ∷ []) ≡ e ∷ []

@@ -7,7 +7,7 @@ use Rattle.std.proofs.Math.Path.{fun_ext}
 use Rattle.vs_graph.specs.declared.node.Node.{Node}
 use Rattle.vs_graph.specs.Good.{body_at, layers_at, StandsAt}
 use Rattle.vs_graph.specs.Standing.{AreIds, member_at, members_of, name_of}
-use Rattle.vs_graph.proofs.CommonLaws.{map_same}
+use Rattle.vs_laws.proofs.Lists.{map_same}
 use Rattle.vs_unlink.specs.Unlinked.{bare}
 use Rattle.vs_unlink.proofs.Leavings.{same_member_by}
 use Rattle.vs_unlink.proofs.Bare.{body_bare, layers_bare, live_bare, bare_stands, stands_bare}

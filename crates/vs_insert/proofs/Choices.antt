@@ -25,7 +25,7 @@ use Rattle.vs_graph.specs.Standing.{AreIds, members_of, name_of, set_of}
 use Rattle.vs_graph.proofs.Goods.{distinct_none}
 use Rattle.vs_graph.proofs.Standing.{bits_there, member_there}
 use Rattle.vs_graph.proofs.NodeLaws.{words_same, fits_node, some_node}
-use Rattle.vs_graph.proofs.CommonLaws.{no_layers}
+use Rattle.vs_defs.proofs.LayerLaws.{no_layers}
 use Rattle.vs_rank.specs.declared.Key.{Key}
 use Rattle.vs_link.specs.Selected.{selected}
 use Rattle.vs_link.proofs.Chosen.{chosen_all, chosen_few, chosen_once}

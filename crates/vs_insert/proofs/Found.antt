@@ -12,7 +12,7 @@ use Rattle.std.proofs.lemmas.List.Elements.{All-map, All-take, All-from_recursio
 use Rattle.std.proofs.lemmas.List.Sorted.{All-permutation, IsPermutation-map, length_permutation}
 use Rattle.vs_graph.specs.declared.node.Node.{Node}
 use Rattle.vs_graph.specs.Good.{StandsAt}
-use Rattle.vs_graph.proofs.CommonLaws.{nat_eq_flips}
+use Rattle.vs_laws.proofs.Tests.{nat_eq_flips}
 use Rattle.vs_rank.specs.declared.Key.{Key}
 use Rattle.vs_rank.proofs.Keys.{same_sorted}
 use Rattle.vs_beam.specs.Beam.{key_at, ranked, IsBeam}

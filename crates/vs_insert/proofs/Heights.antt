@@ -20,7 +20,7 @@ use Rattle.vs_graph.specs.Standing.{AreIds, member_of_node, member_at, members_o
 use Rattle.vs_graph.proofs.Sorts.{In, in_map, from_map, in_filter, from_filter, in_from_test, test_from_in, find_is, sorted_is, in_sort, from_sort, less_or_same, lt_is_gt, gt_back}
 use Rattle.vs_graph.proofs.Standing.{member_name, names_differ}
 use Rattle.vs_graph.specs.Table.{without}
-use Rattle.vs_graph.proofs.CommonLaws.{second_equal}
+use Rattle.vs_laws.proofs.Tests.{second_equal}
 use Rattle.vs_unlink.proofs.Leavings.{members_left}
 use Rattle.vs_insert.specs.Height.{height, IsHighestBelow}
 use Rattle.vs_beam.proofs.Visits.{some_and}

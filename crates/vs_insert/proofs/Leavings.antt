@@ -1,9 +1,10 @@
 -- The members that are left without one, by ids and by names.
-use Rattle.std.proofs.Common.{◌≡◌, ◌≢◌, ℕ, Bool, true, false, not, ◌&&◌, eqb, List, [], refl, sym, ap, ◌∙◌, inl, inr}
+use Rattle.std.proofs.Common.{◌≡◌, ◌≢◌, ℕ, not, ◌&&◌, eqb, List, [], sym, ap, ◌∙◌, inl, inr}
 use Rattle.std.specs.Prelude.{is_some, option_map}
 use Rattle.std.specs.Option.{option_map_or}
 use Rattle.std.specs.declared.option.Option.{Option}
 use Rattle.std.proofs.lemmas.Bool.{cases_eq, eq-eqb, ne_eqb}
+use Rattle.std.proofs.Math.Bool.{and-true, and-false}
 use Rattle.vs_defs.specs.Removal as rules
 use Rattle.vs_graph.specs.declared.node.Node.{Node}
 use Rattle.vs_graph.specs.Good.{AreLinksGood}
@@ -20,16 +21,9 @@ use Rattle.vs_unlink.proofs.Bare.{body_bare, live_bare}
 module _ (at now : ℕ → Option Node) (x m dim : ℕ) (ids : List ℕ) (good : AreLinksGood at m dim) (are : AreIds at ids) (gone : IsWithout at now x) where
   live_by : (id : ℕ) → (is_live ids id && not (eqb id x)) ≡ is_some (now id)
   live_by id = elim (cases_eq id x) [
-    | inl is ↦ ap (λ b. is_live ids id && not b) (eq-eqb id x is) ∙ and_false (is_live ids id) ∙ sym (ap is_some (ap now is ∙ gone.gone))
-    | inr ne ↦ ap (λ b. is_live ids id && not b) (ne_eqb id x ne) ∙ and_true (is_live ids id) ∙ are.live id ∙ sym (live_bare (at id)) ∙ sym (ap is_some (gone.others id ne)) ∙ live_bare (now id)
-  ] where
-    and_false : (b : Bool) → (b && false) ≡ false
-    and_false true = refl
-    and_false false = refl
-
-    and_true : (b : Bool) → (b && true) ≡ b
-    and_true true = refl
-    and_true false = refl
+    | inl is ↦ ap (λ b. is_live ids id && not b) (eq-eqb id x is) ∙ and-false (is_live ids id) ∙ sym (ap is_some (ap now is ∙ gone.gone))
+    | inr ne ↦ ap (λ b. is_live ids id && not b) (ne_eqb id x ne) ∙ and-true (is_live ids id) ∙ are.live id ∙ sym (live_bare (at id)) ∙ sym (ap is_some (gone.others id ne)) ∙ live_bare (now id)
+  ]
 
   pub ids_left : AreIds now (without x ids)
   ids_left = record { once = distinct_without x ids are.once; live = λ id. has_without x id ids ∙ live_by id }

@@ -5,6 +5,7 @@ use Rattle.std.specs.List.{list_any}
 use Rattle.std.specs.Option.{option_map_or}
 use Rattle.std.specs.declared.option.Option.{Option}
 use Rattle.std.proofs.lemmas.Bool.{cases_eq, cond-true, le-leb, both_ways, ne_eqb, eq-eqb, false_from_ne_true}
+use Rattle.std.proofs.Math.Bool.{or-true}
 use Rattle.std.proofs.lemmas.List.{map-append}
 use Rattle.vs_defs.specs.Bytes.{Bytes}
 use Rattle.vs_defs.specs.Store.{Member, no_member}
@@ -172,12 +173,9 @@ module _ (at mid : ℕ → Option Node) (entry : Option ℕ) (m dim id : ℕ) (n
           live_by : (q : ℕ) → (list_any (nat_eq q) ids || eqb q id) ≡ is_some (mid q)
           live_by q =
               elim (cases_eq q id) [
-                | inl is ↦ ap (λ b. list_any (nat_eq q) ids || b) (eq-eqb q id is) ∙ or_true (list_any (nat_eq q) ids) ∙ sym (ap is_some (ap mid is ∙ change.there))
+                | inl is ↦ ap (λ b. list_any (nat_eq q) ids || b) (eq-eqb q id is) ∙ or-true (list_any (nat_eq q) ids) ∙ sym (ap is_some (ap mid is ∙ change.there))
                 | inr ne ↦ ap (λ b. list_any (nat_eq q) ids || b) (ne_eqb q id ne) ∙ or_false (list_any (nat_eq q) ids) ∙ are.live q ∙ sym (ap is_some (change.others q ne))
-              ] where
-                or_true : (b : Bool) → (b || true) ≡ true
-                or_true true = refl
-                or_true false = refl
+              ]
 
     pub members_are : (ids : List ℕ) → AreIds at ids → members_of new dim (ids ++ id ∷ []) ≡ members_of at dim ids ++ member_of_node dim node ∷ []
     members_are ids are =

@@ -7,6 +7,7 @@ use Rattle.std.specs.declared.cmp.Ordering.{Ordering}
 use Rattle.std.specs.declared.cmp.Ordering.TheVariants.{Less, Equal, Greater}
 use Rattle.std.specs.declared.option.Option.{Option}
 use Rattle.std.proofs.lemmas.Bool.{cases_eq, cases_lt, both_ways, not-true, cond-true, and_parts, and_from, lt-ltb, ne_eqb, eqb-false, eq-eqb}
+use Rattle.std.proofs.Math.Bool.{or-true}
 use Rattle.std.proofs.lemmas.List.{take_all}
 use Rattle.std.proofs.lemmas.List.Sorted.{Contains-permutation}
 use Rattle.std.proofs.lemmas.Map.Keys.{IsDistinct-tail, le_from_not_gt}
@@ -67,10 +68,7 @@ one_of_three p x y (a ∷ b ∷ c ∷ keys) only d long = by_tests (p a) (p b) (
   bc = apart_two b.id c.id ids (IsDistinct-tail nat_eq a.id (b.id ∷ c.id ∷ ids) d)
 
   ac : a.id ≡ c.id → ⊥
-  ac e = both_ways (eqb a.id b.id || (eqb a.id c.id || list_any (nat_eq a.id) ids)) (head_absent a.id (b.id ∷ c.id ∷ ids) d) (ap (λ t. eqb a.id b.id || (t || list_any (nat_eq a.id) ids)) (eq-eqb a.id c.id e) ∙ or_true (eqb a.id b.id)) where
-    or_true : (t : Bool) → (t || true) ≡ true
-    or_true true = refl
-    or_true false = refl
+  ac e = both_ways (eqb a.id b.id || (eqb a.id c.id || list_any (nat_eq a.id) ids)) (head_absent a.id (b.id ∷ c.id ∷ ids) d) (ap (λ t. eqb a.id b.id || (t || list_any (nat_eq a.id) ids)) (eq-eqb a.id c.id e) ∙ or-true (eqb a.id b.id))
 
   none : (a.id ≡ x) ⊎ (a.id ≡ y) → (b.id ≡ x) ⊎ (b.id ≡ y) → (c.id ≡ x) ⊎ (c.id ≡ y) → ⊥
   none (inl e) (inl f) g = ab (e ∙ sym f)

@@ -21,7 +21,7 @@ use Rattle.vs_graph.specs.GoodTable.{IsGoodTable}
 use Rattle.vs_graph.specs.Named.{is_live, AreMembers}
 use Rattle.vs_graph.proofs.Sorts.{In, in_map, from_map, in_filter, from_filter, sorted_is, from_sort, in_sort, last_is, find_is, find_none, less_or_same, gt_back, lt_is_gt, in_from_test, test_from_in}
 use Rattle.vs_graph.proofs.Naming.{Stands, none_pass, neighbours_are, live_one, degree_same}
-use Rattle.vs_graph.proofs.CommonLaws.{second_equal}
+use Rattle.vs_laws.proofs.Tests.{second_equal}
 use Rattle.vs_link.specs.Picks.{later, earlier, farthest, nearest}
 use Rattle.vs_link.specs.Linked.{has_room}
 use Rattle.vs_link.proofs.Picked.{farthest_in, nearest_in, farthest_some, nearest_some, filter_in}

@@ -16,7 +16,7 @@ use Rattle.vs_graph.specs.Good.{layers_at}
 use Rattle.vs_link.specs.Linked.{has_room, displaced_by, giving_way, accepted, forced_near, forced_at}
 use Rattle.vs_graph.proofs.Lists.{length_push}
 use Rattle.vs_graph.proofs.NodeLaws.{live_from_layers}
-use Rattle.vs_graph.proofs.CommonLaws.{in_at}
+use Rattle.vs_laws.proofs.Lists.{in_at}
 
 abbrev pub Picks : (Option ℕ → ℕ → Option ℕ) → Type 0
 Picks f = (b : Option ℕ) (z : ℕ) → (f b z ≡ Some z) ⊎ (f b z ≡ b)

@@ -8,16 +8,13 @@ use Rattle.std.specs.Cmp.{nat_eq_equiv}
 use Rattle.std.specs.List.{list_any, IsDistinct, slice_set}
 use Rattle.std.specs.List.Sorted.{IsPermutation}
 use Rattle.std.proofs.lemmas.Bool.{false_from_ne_true, eqb-true}
-use Rattle.std.proofs.lemmas.Bool.Decides.{nat_tests}
 use Rattle.std.proofs.lemmas.List.{take_more, take_all, length_push, get_or_default, get_or_append_left, get_or-append-add}
 use Rattle.std.proofs.lemmas.List.Elements.{All-nil, All-push, All-from_recursion}
 use Rattle.std.proofs.lemmas.List.Folds.{list_any_none}
 use Rattle.std.proofs.lemmas.List.Sorted.{All-permutation, IsPermutation-refl, IsPermutation-sym, IsPermutation-trans, IsPermutation-append_left, IsPermutation-append_right, IsPermutation-to_front, IsPermutation-middle, IsPermutation-swap_remove, length_permutation}
 use Rattle.std.proofs.lemmas.Map.Keys.{IsDistinct-IsPermutation, IsDistinct-head, IsDistinct-push}
+use Rattle.vs_laws.proofs.Tests.{nat_eq_flips}
 use Rattle.vs_order.specs.Ids.{AreSplit, next_id, next_after}
-
-flips : (x y : ℕ) → nat_eq x y ≡ nat_eq y x
-flips x y = grind (arith, nat_tests)
 
 pub split_empty : AreSplit [] [] 0
 unfolding IsDistinct
@@ -26,7 +23,7 @@ split_empty = record { once = tt; below = All-nil (λ id. id < 0); counted = ref
 -- the same ids in another order
 moved : (taken free others rest : List ℕ) (next : ℕ) → IsPermutation (taken ++ free) (others ++ rest) → AreSplit taken free next → AreSplit others rest next
 moved taken free others rest next p s = record {
-  once = IsDistinct-IsPermutation nat_eq flips (taken ++ free) (others ++ rest) p s.once;
+  once = IsDistinct-IsPermutation nat_eq nat_eq_flips (taken ++ free) (others ++ rest) p s.once;
   below = All-permutation (λ id. id < next) (taken ++ free) (others ++ rest) p s.below;
   counted = omega (arith, length_permutation (taken ++ free) (others ++ rest) p, length-append taken free, length-append others rest, s.counted);
   few = s.few;
@@ -54,7 +51,7 @@ not_in taken rest y once =
     = subst (λ l. IsPermutation l (y ∷ (taken ++ rest))) (sym (append_assoc taken (y ∷ []) rest)) (IsPermutation-middle taken y rest) in
     let apart : All (λ z. nat_eq y z ≡ false) (taken ++ rest)
     = All-from_recursion (λ z. nat_eq y z ≡ false) (taken ++ rest)
-    (IsDistinct-head nat_eq y (taken ++ rest) (IsDistinct-IsPermutation nat_eq flips ((taken ++ y ∷ []) ++ rest) (y ∷ (taken ++ rest)) front once)) in
+    (IsDistinct-head nat_eq y (taken ++ rest) (IsDistinct-IsPermutation nat_eq nat_eq_flips ((taken ++ y ∷ []) ++ rest) (y ∷ (taken ++ rest)) front once)) in
     list_any_none (nat_eq y) taken (All-left (λ z. nat_eq y z ≡ false) taken rest apart)
 
 -- one beyond all is none of them
@@ -65,7 +62,7 @@ pub is_free : (taken free : List ℕ) (next : ℕ) → AreSplit taken free next 
 is_free taken [] next s = beyond next taken (All-left (λ id. id < next) taken [] s.below)
 is_free taken (x ∷ xs) next s =
     not_in taken (take (length (x ∷ xs) - 1) (x ∷ xs)) (get_or (x ∷ xs) (length (x ∷ xs) - 1) next)
-    (IsDistinct-IsPermutation nat_eq flips (taken ++ x ∷ xs) ((taken ++ get_or (x ∷ xs) (length (x ∷ xs) - 1) next ∷ []) ++ take (length (x ∷ xs) - 1) (x ∷ xs)) (last_moves taken x xs next) s.once)
+    (IsDistinct-IsPermutation nat_eq nat_eq_flips (taken ++ x ∷ xs) ((taken ++ get_or (x ∷ xs) (length (x ∷ xs) - 1) next ∷ []) ++ take (length (x ∷ xs) - 1) (x ∷ xs)) (last_moves taken x xs next) s.once)
 
 pub is_small : (taken free : List ℕ) (next : ℕ) → AreSplit taken free next → length taken < 2 ^ 20 → next_id free next < 2 ^ 20
 is_small taken [] next s room = omega (arith, room, s.counted)

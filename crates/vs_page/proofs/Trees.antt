@@ -3,7 +3,7 @@ use Rattle.std.proofs.Common.{◌≡◌, ◌≢◌, ℕ, zero, suc, ◌+◌, ◌
 use Rattle.std.specs.Prelude.{Some, None, slice_get, slice_set}
 use Rattle.std.specs.declared.option.Option.{Option}
 use Rattle.std.proofs.lemmas.List.{get_or-set_same, get_or-set_other, get_or_append_left, get_or_push, get_or_past}
-use Rattle.std.proofs.lemmas.Bool.{cases_eq, cases_lt}
+use Rattle.std.proofs.lemmas.Bool.{cases_eq, cases_lt, eqb-true}
 use Rattle.std.specs.Prelude.{unwrap_or}
 use Rattle.std.specs.Option.{option_or}
 use Rattle.vs_page.specs.Changes.{says, shown}
@@ -77,15 +77,12 @@ last_step : {X : Type 0} (t : Bool) (x a b : X) → (t ≡ true → b ≡ x) →
 last_step true x a b h k = sym (h refl)
 last_step false x a b h k = sym (k refl)
 
-eq_of : (m n : ℕ) → (m == n) ≡ true → m ≡ n
-eq_of m n h = grind arith
-
 ne_of : (m n : ℕ) → (m == n) ≡ false → n ≢ m
 ne_of m n h = λ e. grind arith
 
 pub settled_one : {X : Type 0} (front : List (Change X)) (c : Change X) (q : ℕ) (a b : Option X) → (q ≡ c.id → b ≡ c.item) → (q ≢ c.id → b ≡ a)
     → unwrap_or (says front q) b ≡ unwrap_or (says (front ++ c ∷ []) q) a
-settled_one [] c q a b here others = sym (last_step (c.id == q) c.item a b (λ t. here (sym (eq_of c.id q t))) (λ t. others (ne_of c.id q t)))
+settled_one [] c q a b here others = sym (last_step (c.id == q) c.item a b (λ t. here (sym (eqb-true c.id q t))) (λ t. others (ne_of c.id q t)))
 settled_one (f ∷ fs) c q a b here others = cond_step (f.id == q) f.item b a (says fs q) (says (fs ++ c ∷ []) q) (settled_one fs c q a b here others)
 
 pub settle_same : {X : Type 0} (late front : List (Change X)) (c : Change X) (root new : List (List (List (Option X)))) → late ≡ front ++ c ∷ []

@@ -5,10 +5,10 @@ use Rattle.std.specs.Option.{option_map_or}
 use Rattle.std.proofs.lemmas.Bool.Decides.{nat_tests}
 use Rattle.std.proofs.lemmas.Option.{slice_get-get_or}
 use Rattle.std.proofs.lemmas.List.{length-take-le, get_or-take}
-use Rattle.std.proofs.lemmas.Bool.{and_parts, le-leb}
+use Rattle.std.proofs.lemmas.Bool.{and_parts, both_ways, le-leb}
 use Rattle.vs_rank.specs.declared.Key.{Key}
 use Rattle.vs_rank.specs.Ranked.{Least, key_cmp, key_lt, with_key, worst_of, is_beyond}
-use Rattle.vs_rank.proofs.Sorted.{Ascends, above, not_both}
+use Rattle.vs_rank.proofs.Sorted.{Ascends, above}
 use Rattle.vs_rank.proofs.Keys.{gt_is}
 
 abbrev pub beyond_of : ℕ → List Key → Key → Bool
@@ -59,7 +59,7 @@ worst_at : (keys : List Key) (d : Key) → 0 < length keys → worst_of keys ≡
 worst_at keys d h = slice_get-get_or keys (length keys - 1) d (omega arith)
 
 pub beyond_stays : (most : ℕ) (keys : List Key) (key other : Key) → Ascends key_cmp keys → length keys ≤ most → beyond_of most keys other ≡ true → beyond_of most (take most (with_key keys key)) other ≡ true
-beyond_stays most [] key other up few h = absurd (not_both false (and_parts (nat_le most 0) false h).1 refl)
+beyond_stays most [] key other up few h = absurd (both_ways false refl (and_parts (nat_le most 0) false h).1)
 beyond_stays most (x ∷ xs) key other up few h =
     let keys : List Key = x ∷ xs in
     let test = and_parts (nat_le most (length keys)) (option_map_or (λ last. key_lt last other) (worst_of keys) false) h in

@@ -5,6 +5,7 @@ use Rattle.std.specs.Option.{option_map_or}
 use Rattle.std.specs.List.{AllByRecursion}
 use Rattle.std.specs.List.Sorted.{IsPermutation}
 use Rattle.std.specs.Ordering.{is_gt, is_lt}
+use Rattle.std.proofs.lemmas.Bool.{both_ways}
 use Rattle.std.proofs.lemmas.Bool.Decides.{nat_tests}
 use Rattle.std.proofs.lemmas.List.Elements.{All-from_recursion}
 use Rattle.vs_rank.specs.declared.Key.{Key}
@@ -100,5 +101,5 @@ pub front_with : (p : Key → Bool) (n : ℕ) (keys : List Key) (key : Key)
 front_with p n keys key = sorted.front_with key_cmp key_order p n keys key
 
 pub some_kept : (keys : List Key) (key : Key) → option_map_or (λ worst. key_lt key worst) (worst_of keys) false ≡ true → 0 < length keys
-some_kept [] key h = absurd (sorted.not_both false h refl)
+some_kept [] key h = absurd (both_ways false refl h)
 some_kept (x ∷ xs) key h = omega arith

@@ -7,13 +7,13 @@ use Rattle.std.specs.List.Sorted.{IsPermutation, IsSortedBy}
 use Rattle.std.specs.Ordering.{nat_cmp, is_gt, is_lt}
 use Rattle.std.specs.BinaryHeap.{IsHeap, IsUpperBound}
 use Rattle.std.specs.declared.collections.binary_heap.BinaryHeap.{BinaryHeap}
-use Rattle.std.proofs.lemmas.Bool.{cases_lt, le-leb}
+use Rattle.std.proofs.lemmas.Bool.{both_ways, cases_lt, le-leb, lt-leb}
 use Rattle.std.proofs.lemmas.Bool.Decides.{nat_tests}
 use Rattle.std.proofs.lemmas.List.{get_or-map, length-map}
 use Rattle.std.proofs.lemmas.List.Sorted.{IsPermutation-map, length_permutation}
 use Rattle.vs_rank.specs.declared.Key.{Key}
 use Rattle.vs_rank.specs.Ranked.{key_cmp, key_lt, with_key, sorted_keys, worst_of, Least, TopIsReplaced, is_beyond, unpacked}
-use Rattle.vs_rank.proofs.Sorted.{Ascends, not_both}
+use Rattle.vs_rank.proofs.Sorted.{Ascends}
 use Rattle.vs_rank.proofs.Sorted as sorted
 use Rattle.vs_rank.proofs.Keys.{key_order, lt_is, gt_is}
 
@@ -85,7 +85,7 @@ pub peeked : (h : BinaryHeap ℕ Global) (r : Option (Bor ℕ)) → IsHeap nat_c
     → worst_of (kept h) ≡ option_map unpacked (option_copied r)
 peeked h None heap some at greatest =
     elim (cases_lt 0 (heap_len h)) [
-      | inl pos ↦ absurd (not_both false (some.1 pos) refl)
+      | inl pos ↦ absurd (both_ways false refl (some.1 pos))
       | inr under ↦ sym (none_kept h under)
     ]
 peeked h (Some x) heap some at greatest = top_is h x.now (some.0 refl) at (greatest heap)
@@ -116,9 +116,6 @@ offered_full h least key r b v is seen_as full e f =
     below_as key None = refl
     below_as key (Some z) = gt_is z key
 
-not_below : (most n : ℕ) → n < most → nat_le most n ≡ false
-not_below most n h = grind (arith, nat_tests)
-
 pub beyond_full : (h : BinaryHeap ℕ Global) (key worst : Key) (most spare : ℕ) → most ≤ heap_len h → worst_of (kept h) ≡ Some worst
     → is_beyond (record { most = most; keys = kept h; spare = spare }) key ≡ key_lt worst key
 beyond_full h key worst most spare full is = λ t. le-leb most (length (kept h)) (omega (arith, kept_long h)) t && option_map_or (λ last. key_lt last key) (is t) false
@@ -126,5 +123,5 @@ beyond_full h key worst most spare full is = λ t. le-leb most (length (kept h))
 pub beyond_room : (h : BinaryHeap ℕ Global) (key : Key) (n most spare : ℕ) → n ≡ heap_len h → n < most
     → nat_le most n ≡ is_beyond (record { most = most; keys = kept h; spare = spare }) key
 beyond_room h key n most spare is room =
-    not_below most n room
-    ∙ sym (ap (λ b. b && option_map_or (λ last. key_lt last key) (worst_of (kept h)) false) (not_below most (length (kept h)) (omega (arith, kept_long h))))
+    lt-leb most n room
+    ∙ sym (ap (λ b. b && option_map_or (λ last. key_lt last key) (worst_of (kept h)) false) (lt-leb most (length (kept h)) (omega (arith, kept_long h))))

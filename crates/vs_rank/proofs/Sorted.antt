@@ -12,7 +12,7 @@ use Rattle.std.specs.declared.cmp.Ordering.{Ordering}
 use Rattle.std.specs.declared.cmp.Ordering.TheVariants.{Less, Equal, Greater}
 use Rattle.std.specs.Cmp.{IsTotalOrder, first_so, second_so}
 use Rattle.std.proofs.lemmas.Cmp.{upto}
-use Rattle.std.proofs.lemmas.Bool.{cases_Bool, not-true}
+use Rattle.std.proofs.lemmas.Bool.{both_ways, cases_Bool, not-true}
 use Rattle.std.proofs.lemmas.List.{take-take, take_more}
 use Rattle.std.proofs.lemmas.List.Sums.{sum_by-cons}
 use Rattle.std.proofs.lemmas.List.Elements.{All-from_recursion, recursion_from_All}
@@ -27,13 +27,10 @@ pub record IsOrder {X : Type 0} (cmp : X → X → Ordering) : Type 0 where
   pub turned : (x y : X) → is_lt (cmp x y) ≡ is_gt (cmp y x)
   pub one : (x y : X) → is_gt (cmp x y) ≡ false → is_gt (cmp y x) ≡ false → x ≡ y
 
-pub not_both : (b : Bool) → b ≡ true → b ≡ false → ⊥
-not_both b p q = cc
-
 one_way_case : (r s : Ordering) → r ≡ ordering_reverse s → is_gt r ≡ true → is_gt s ≡ false
 one_way_case r Less e p = refl
 one_way_case r Equal e p = refl
-one_way_case r Greater e p = absurd (not_both (is_gt r) p (ap is_gt e))
+one_way_case r Greater e p = absurd (both_ways (is_gt r) (ap is_gt e) p)
 
 lt_turned : (s : Ordering) → is_lt (ordering_reverse s) ≡ is_gt s
 lt_turned Less = refl
@@ -41,9 +38,9 @@ lt_turned Equal = refl
 lt_turned Greater = refl
 
 equal_case : (r s : Ordering) → r ≡ ordering_reverse s → is_gt r ≡ false → is_gt s ≡ false → r ≡ Equal
-equal_case r Less e p q = absurd (not_both (is_gt r) (ap is_gt e) p)
+equal_case r Less e p q = absurd (both_ways (is_gt r) p (ap is_gt e))
 equal_case r Equal e p q = e
-equal_case r Greater e p q = absurd (not_both true refl q)
+equal_case r Greater e p q = absurd (both_ways true q refl)
 
 -- an order of the library's, where what compares equal is equal
 pub order_of : {X : Type 0} (cmp : X → X → Ordering) → IsTotalOrder cmp → ((x y : X) → cmp x y ≡ Equal → x ≡ y) → IsOrder cmp
@@ -163,7 +160,7 @@ module _ {X : Type 0} (cmp : X → X → Ordering) (o : IsOrder cmp) where
   pub below_then : (x y z : X) → above cmp y x ≡ true → above cmp y z ≡ false → above cmp z x ≡ true
   below_then x y z p q = elim (cases_Bool (above cmp z x)) [
     | inl over ↦ over
-    | inr under ↦ absurd (not_both (above cmp y x) p (o.chain y z x q under))
+    | inr under ↦ absurd (both_ways (above cmp y x) (o.chain y z x q under) p)
   ]
 
   at_most_further : (x y : X) (ys : List X) → above cmp x y ≡ false → AtMost cmp y ys → AtMost cmp x ys

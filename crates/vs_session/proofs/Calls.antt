@@ -1,5 +1,6 @@
 -- What a store does with a request makes one call of an author at the history before it.
-use Rattle.std.proofs.Common.{◌≡◌, inl, inr, ℕ, List, [], ◌∷◌, ◌++◌, Some, None, refl, sym, ap, subst, ◌∙◌, append_assoc, append-nil, true, false, cond, ◌==◌, ◌⊎◌, rules}
+use Rattle.std.proofs.Common.{◌≡◌, inl, inr, ℕ, List, [], ◌∷◌, ◌++◌, Some, None, refl, sym, ap, subst, ◌∙◌, append_assoc, append-nil, true, false, cond, ◌==◌, ◌⊎◌}
+use Rattle.std.proofs.lemmas.Bool.{eq-eqb}
 use Rattle.vs_defs.specs.Request.{Request, Answer}
 use Rattle.vs_defs.specs.Bounds.{IsInBounds}
 use Rattle.vs_defs.specs.Reply.{Outcome}
@@ -11,7 +12,7 @@ use Rattle.vs_defs.specs.History.{Entry, own, store_after}
 use Rattle.vs_defs.specs.PlainMachine.{PlainHistory, PlainFollows, PlainAnswers, PlainChanges, PlainDoes}
 use Rattle.vs_defs.specs.PlainStep.{PlainStep}
 use Rattle.vs_session.specs.Does.{Does}
-use Rattle.vs_session.specs.Alone.{Call, Legal, store_at, IsOwn, Stored}
+use Rattle.vs_session.specs.Alone.{Call, Legal, store_at, Stored}
 
 legal_push : (before h : PlainHistory) (e : Entry PlainStore) → history.LegalAfter (PlainFollows usual_limits) before h → PlainFollows usual_limits (before ++ h) e
     → history.LegalAfter (PlainFollows usual_limits) before (h ++ e ∷ [])
@@ -38,9 +39,6 @@ others_push k (d ∷ h) e is = elim (d.author == k) as (λ b. cond b (d ∷ own 
   | true ↦ ap (λ (l : PlainHistory). d ∷ l) (others_push k h e is)
   | false ↦ others_push k h e is
 ]
-
-same_author : (k : ℕ) → (k == k) ≡ true
-same_author k = search rules
 
 -- ---- a call, and the history after it
 
@@ -102,7 +100,7 @@ module _ (k : ℕ) (old new : PlainStore) (h : PlainHistory) (legal : Legal h) (
 by_one : (k : ℕ) (h t : PlainHistory) → own k h ≡ h → Adds k h t → own k t ≡ t
 by_one k h t is (inl same) = subst (λ (x : PlainHistory). own k x ≡ x) (sym same) is
 by_one k h t is (inr (e, author, same)) =
-    let mine : (e.author == k) ≡ true = subst (λ (j : ℕ). (j == k) ≡ true) (sym author) (same_author k) in
+    let mine : (e.author == k) ≡ true = subst (λ (j : ℕ). (j == k) ≡ true) (sym author) (eq-eqb k k refl) in
     subst (λ (x : PlainHistory). own k x ≡ x) (sym same) (own_push k h e mine ∙ ap (λ (l : PlainHistory). l ++ e ∷ []) is)
 
 pub does_alone : (k : ℕ) (old new : PlainStore) (h : PlainHistory) (r : Request) (words : List ℕ) (o : Outcome) → Stored old k h → IsInBounds r → PlainDoes old r words o new →

@@ -4,7 +4,6 @@ use Rattle.std.specs.Prelude.{IfSome, IsTrue}
 use Rattle.rand_pcg.specs.Lcg.{Lcg}
 use Rattle.vs_defs.specs.Request as request
 use Rattle.vs_defs.specs.Stream.{Message}
-use Rattle.vs_defs.specs.Bounds.{IsInBounds}
 use Rattle.vs_defs.specs.Reply.{Outcome}
 use Rattle.vs_defs.specs.Reply as outcome
 use Rattle.vs_defs.specs.Read.{read as read_words}

@@ -1,7 +1,7 @@
 -- A store that one author alone has changed, and a connection over it.
 --     Stored k store h                it is the store after a legal history of the author's changes alone
 --     EndsWith end g input output     a connection of the author 0 over a fresh store; g is the generator that the first word is drawn from
-use Rattle.std.specs.Prelude.{◌≡◌, ℕ, [], List}
+use Rattle.std.specs.Prelude.{◌≡◌, ℕ, []}
 use Rattle.rand_pcg.specs.Lcg.{Lcg}
 use Rattle.vs_defs.specs.Bytes.{Bytes}
 use Rattle.vs_defs.specs.Store.{PlainStore, usual_limits}

@@ -1,23 +1,19 @@
 -- The first of what a search found, one at a time.
-use Rattle.std.proofs.Common.{◌≡◌, ℕ, ◌+◌, ◌<◌, ◌≤◌, List, [], ◌∷◌, ◌++◌, length, get_or, map, take, min, refl, sym, ap, ◌∙◌, arith, inl, inr, take_all}
-use Rattle.std.proofs.lemmas.Bool.{cases_lt}
-use Rattle.std.proofs.lemmas.List.{take_more, length-map}
+use Rattle.std.proofs.Common.{◌≡◌, ℕ, ◌+◌, ◌<◌, ◌≤◌, List, [], ◌∷◌, length, get_or, map, take, min, refl, sym, ap, ◌∙◌, arith}
+use Rattle.std.proofs.lemmas.List.{map_push, take_more, take_all, length-map}
 use Rattle.std.proofs.lemmas.List.Sorted.{length_permutation}
 use Rattle.vs_defs.specs.Bytes.{Bytes, sort_by, place_by}
 use Rattle.vs_rank.specs.declared.Key.{Key}
 use Rattle.vs_rank.proofs.Sorted.{sort_push, sort_permutes, take_place}
 use Rattle.vs_truth.specs.declared.candidate.Candidate.{Candidate}
 use Rattle.vs_truth.specs.Nears.{Near, near_cmp, near_of, near_hit, candidate_hit}
+use Rattle.vs_laws.proofs.Lists.{take_least}
 use Rattle.vs_truth.proofs.Order.{near_order}
 use Rattle.vs_order.specs.Entries.{Entries, name_at, place_of_id}
 use Rattle.vs_set.specs.Firsts.{near_in}
 
 abbrev pub nears_of : Entries → ℕ → List Key → List Near
 nears_of entries most keys = take most (sort_by near_cmp (map (near_in entries) keys))
-
-map_push : {A B : Type 0} (f : A → B) (xs : List A) (x : A) → map f (xs ++ x ∷ []) ≡ map f xs ++ f x ∷ []
-map_push f [] x = refl
-map_push f (y ∷ ys) x = ap (λ t. f y ∷ t) (map_push f ys x)
 
 pub one_more : (entries : Entries) (most few : ℕ) (keys : List Key) (i : ℕ) (d : Key) (name : Bytes) (place : ℕ) (nears more : List Near) → i < length keys → few ≡ most
     → name ≡ name_at entries (place_of_id (get_or keys i d).id entries) → place ≡ place_of_id (get_or keys i d).id entries → nears ≡ nears_of entries most (take i keys)
@@ -34,12 +30,6 @@ one_more entries most few keys i d name place nears more h is_most is_name is_pl
 pub hits_seen : (xs : List Candidate) → map candidate_hit xs ≡ map near_hit (map near_of xs)
 hits_seen [] = refl
 hits_seen (x ∷ xs) = ap (λ l. candidate_hit x ∷ l) (hits_seen xs)
-
-pub take_least : {A : Type 0} (count n : ℕ) (xs : List A) → length xs ≤ n → take (min count n) xs ≡ take count xs
-take_least count n xs h = elim (cases_lt n count) [
-  | inl over ↦ take_all (min count n) xs (omega arith) ∙ sym (take_all count xs (omega arith))
-  | inr under ↦ ap (λ k. take k xs) (omega arith)
-]
 
 pub all_of : (entries : Entries) (most count place : ℕ) (keys : List Key) → most ≡ min count (length keys) → length keys ≤ place → nears_of entries most (take place keys) ≡ take count (sort_by near_cmp (map (near_in entries) keys))
 all_of entries most count place keys is past =

@@ -6,12 +6,13 @@
 --     named_empty      no entries are those of an empty graph
 --     fresh_name       a name that is no member is no live node's
 --     is_some_of_map   whether there is one, of what is made of it
-use Rattle.std.proofs.Common.{◌≡◌, ◌≢◌, inl, inr, subst, ℕ, zero, suc, ◌<◌, ◌+◌, ◌^◌, Bool, true, false, not, cond, List, [], ◌∷◌, ◌++◌, ◌≤◌, length, map, refl, sym, ap, ◌∙◌, arith, get_or, is_some}
+use Rattle.std.proofs.Common.{◌≡◌, ◌≢◌, inl, inr, subst, ℕ, suc, ◌+◌, ◌^◌, Bool, true, false, not, cond, List, [], ◌∷◌, ◌≤◌, length, map, refl, sym, ap, ◌∙◌, arith, is_some}
 use Rattle.std.specs.Prelude.{All, option_map, position, Option, Some, None, IfSome, IsSome, nat_lt, nat_eq, ◌||◌}
 use Rattle.std.specs.List.{position_or_len, list_any}
 use Rattle.std.specs.Option.{option_map_or}
-use Rattle.std.specs.Map.{keys_of, lookup}
+use Rattle.std.specs.Map.{keys_of}
 use Rattle.std.proofs.lemmas.Bool.{both_ways, or_cases, eqb-true, eq-eqb}
+use Rattle.std.proofs.Math.Bool.{or-true}
 use Rattle.std.proofs.lemmas.Slice.Eq.{bytes_eq-Decides}
 use Rattle.std.proofs.lemmas.List.{length-map}
 use Rattle.vs_defs.specs.Bytes.{Bytes, same_name}
@@ -82,16 +83,12 @@ module _ (at : ℕ → Option Node) (m dim : ℕ) where
 some_is : (x y : ℕ) → Some x ≡ Some y → x ≡ y
 some_is x y h = ap (λ (o : Option ℕ). option_map_or (λ k. k) o x) h
 
-or_true : (b : Bool) → (b || true) ≡ true
-or_true true = refl
-or_true false = refl
-
 live_in : (name : Bytes) (entries : Entries) (x : ℕ) → id_of name entries ≡ Some x → list_any (nat_eq x) (ids_of entries) ≡ true
 live_in name [] x h = absurd (both_ways false refl (ap is_some h))
 live_in name (e ∷ es) x h = by (same_name name e.0) h (live_in name es x) where
   by : (b : Bool) → cond b (Some e.1) (id_of name es) ≡ Some x → (id_of name es ≡ Some x → list_any (nat_eq x) (ids_of es) ≡ true) → (nat_eq x e.1 || list_any (nat_eq x) (ids_of es)) ≡ true
   by true k rec = ap (λ b. b || list_any (nat_eq x) (ids_of es)) (eq-eqb x e.1 (sym (some_is e.1 x k)))
-  by false k rec = ap (λ b. nat_eq x e.1 || b) (rec k) ∙ or_true (nat_eq x e.1)
+  by false k rec = ap (λ b. nat_eq x e.1 || b) (rec k) ∙ or-true (nat_eq x e.1)
 
 pub live_at : (at : ℕ → Option Node) (name : Bytes) (entries : Entries) (x : ℕ) → AreIds at (ids_of entries) → id_of name entries ≡ Some x → IsSome (at x)
 live_at at name entries x are h = sym (are.live x) ∙ live_in name entries x h

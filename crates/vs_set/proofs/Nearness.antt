@@ -24,7 +24,7 @@ use Rattle.vs_graph.specs.Good.{StandsAt, IsGood}
 use Rattle.vs_graph.specs.Standing.{member_at, members_of, name_of}
 use Rattle.vs_graph.specs.Named.{is_live}
 use Rattle.vs_graph.proofs.Standing.{member_there, member_name, names_differ}
-use Rattle.vs_graph.proofs.CommonLaws.{nat_eq_flips}
+use Rattle.vs_laws.proofs.Tests.{nat_eq_flips}
 use Rattle.vs_rank.specs.declared.Key.{Key}
 use Rattle.vs_rank.specs.Tests.{Attribute}
 use Rattle.vs_rank.proofs.Keys.{same_sorted}

@@ -3,13 +3,12 @@
 --     counted_after                   how many of them have an attribute
 --     low, id_there, named_there      the place of a name: its id, and its name in the graph
 --     removes, kept_out, counts       the set after it
-use Rattle.std.proofs.Common.{◌≡◌, ◌≢◌, ℕ, ◌<◌, ◌≤◌, ◌+◌, Bool, true, false, ◌||◌, List, [], ◌∷◌, length, map, refl, sym, ap, ◌∙◌, arith, is_some, subst, inl, inr, get_or}
+use Rattle.std.proofs.Common.{◌≡◌, ◌≢◌, ℕ, ◌<◌, ◌≤◌, ◌+◌, Bool, true, false, ◌||◌, List, [], ◌∷◌, length, refl, sym, ap, ◌∙◌, arith, is_some, subst, inl, inr, get_or}
 use Rattle.std.specs.Prelude.{All, nat_eq, Option, Some, IsSome, IsSomeAnd, slice_get, swap_remove}
 use Rattle.std.specs.Map.{keys_of}
 use Rattle.std.specs.List.{list_any, IsDistinct, AllByRecursion}
 use Rattle.std.specs.List.Sorted.{IsPermutation}
 use Rattle.std.proofs.lemmas.Bool.{cases_eq, eq-eqb, ne_eqb, both_ways}
-use Rattle.std.proofs.lemmas.Bool.Decides.{nat_tests}
 use Rattle.std.proofs.lemmas.List.{length-map, get_or_default, get_or-map}
 use Rattle.std.proofs.lemmas.List.Elements.{All-tail, All-from_recursion}
 use Rattle.std.proofs.lemmas.List.Folds.{list_any_none}
@@ -19,6 +18,7 @@ use Rattle.std.proofs.lemmas.Slice.Eq.{bytes_eq-Decides}
 use Rattle.std.proofs.lemmas.List.Sorted.{All-permutation, IsPermutation-swap_remove, list_any-IsPermutation}
 use Rattle.std.proofs.lemmas.List.Sums.{sum_by-swap_remove}
 use Rattle.std.proofs.lemmas.Map.Keys.{IsDistinct-IsPermutation, IsDistinct-head}
+use Rattle.vs_laws.proofs.Tests.{nat_eq_flips}
 use Rattle.vs_defs.specs.Bytes.{Bytes, same_name}
 use Rattle.vs_defs.specs.Removal.{Removes}
 use Rattle.vs_defs.specs.Store.{Member, no_member, without_member}
@@ -40,9 +40,6 @@ use Rattle.vs_set.proofs.Growth.{name_kept, entry_live}
 use Rattle.vs_set.proofs.Places.{is_same, others as no_other, removed_at}
 use Rattle.vs_set.proofs.Counting.{has_attr, same_members}
 
-flips : (x y : ℕ) → nat_eq x y ≡ nat_eq y x
-flips x y = grind (arith, nat_tests)
-
 module _ (at new : ℕ → Option Node) (dim : ℕ) (entries : Entries) (named : AreNamed at entries) (place x : ℕ) (low : place < length entries) (is_x : get_or (ids_of entries) place x ≡ x) (gone : IsWithout at new x) where
   abbrev ids : List ℕ
   ids = ids_of entries
@@ -63,7 +60,7 @@ module _ (at new : ℕ → Option Node) (dim : ℕ) (entries : Entries) (named :
   turned = subst (λ q. IsPermutation ids (q ∷ rest)) is_x (goes_out ids place x low_ids)
 
   once_left : IsDistinct nat_eq (x ∷ rest)
-  once_left = IsDistinct-IsPermutation nat_eq flips ids (x ∷ rest) turned named.ids.once
+  once_left = IsDistinct-IsPermutation nat_eq nat_eq_flips ids (x ∷ rest) turned named.ids.once
 
   others : AllByRecursion (λ y. nat_eq x y ≡ false) rest
   others = IsDistinct-head nat_eq x rest once_left

@@ -2,6 +2,7 @@
 use Rattle.std.proofs.Common.{◌≡◌, ◌<◌, ◌≤◌, ◌+◌, ◌-◌, ℕ, suc, Bool, true, false, cond, not, ◌==◌, nat_lt, List, [], ◌∷◌, ◌++◌, length, take, drop, filter, refl, sym, ap, ◌∙◌, arith, append_assoc, append-nil}
 use Rattle.std.proofs.lemmas.Grind.{common_steps}
 use Rattle.std.specs.List.{prefix_len}
+use Rattle.vs_defs.specs.Limits.{max_line_bytes}
 use Rattle.vs_defs.specs.Bytes.{Bytes}
 use Rattle.vs_defs.specs.Numeral.{is_empty}
 use Rattle.vs_defs.specs.Stream.{Message, InlineTooLong, Reading, Whole, Short, Faulty, runs_from, words_of_line, without_return, line_of, line_at}
@@ -12,7 +13,7 @@ abbrev pub line_on : ℕ → List Bytes → Bytes → Bytes → Reading Message
 line_on k ws w [] = Short
 line_on k ws w (c ∷ cs) =
     cond (c == 10) (Whole (ws ++ one_word (without_return w)) cs)
-    (elim (nat_lt k 65536) [
+    (elim (nat_lt k max_line_bytes) [
       | true ↦ elim (c == 32) [ true ↦ line_on (k + 1) (ws ++ one_word w) [] cs | false ↦ line_on (k + 1) ws (w ++ c ∷ []) cs ]
       | false ↦ Faulty InlineTooLong (c ∷ cs)
     ])
@@ -87,76 +88,76 @@ line_words (c ∷ cs) = words_on_is [] [] c cs
 -- what the definition says, where n bytes stand before the line feed and k came before
 abbrev pub line_by : ℕ → List Bytes → Bytes → ℕ → Bytes → Reading Message
 line_by k ws w n text =
-    cond (nat_lt 65536 (k + n)) (Faulty InlineTooLong (drop (65536 - k) text))
+    cond (nat_lt max_line_bytes (k + n)) (Faulty InlineTooLong (drop (max_line_bytes - k) text))
     (cond (nat_lt n (length text)) (Whole (words_on ws w (take n text)) (drop (n + 1) text)) Short)
 
-few : (k : ℕ) → k ≤ 65536 → nat_lt 65536 (k + 0) ≡ false
+few : (k : ℕ) → k ≤ max_line_bytes → nat_lt max_line_bytes (k + 0) ≡ false
 few k h = grind (arith, common_steps)
 
 some_more : (n : ℕ) → nat_lt 0 (suc n) ≡ true
 some_more n = grind (arith, common_steps)
 
-too_many : (k m : ℕ) → nat_lt k 65536 ≡ false → nat_lt 65536 (k + (1 + m)) ≡ true
-too_many k m h = let past : 65536 ≤ k = grind (arith, common_steps) in grind (arith, common_steps)
+too_many : (k m : ℕ) → nat_lt k max_line_bytes ≡ false → nat_lt max_line_bytes (k + (1 + m)) ≡ true
+too_many k m h = let past : max_line_bytes ≤ k = grind (arith, common_steps) in grind (arith, common_steps)
 
-none_left : (k : ℕ) → nat_lt k 65536 ≡ false → 65536 - k ≡ 0
-none_left k h = let past : 65536 ≤ k = grind (arith, common_steps) in omega arith
+none_left : (k : ℕ) → nat_lt k max_line_bytes ≡ false → max_line_bytes - k ≡ 0
+none_left k h = let past : max_line_bytes ≤ k = grind (arith, common_steps) in omega arith
 
-below : (k : ℕ) → nat_lt k 65536 ≡ true → k < 65536
+below : (k : ℕ) → nat_lt k max_line_bytes ≡ true → k < max_line_bytes
 below k h = grind (arith, common_steps)
 
 lt_suc : (m n : ℕ) → nat_lt (suc m) (suc n) ≡ nat_lt m n
 lt_suc m n = grind (arith, common_steps)
 
-line_shift : (k : ℕ) (ws : List Bytes) (w : Bytes) (ws1 : List Bytes) (w1 : Bytes) (m c : ℕ) (cs : Bytes) → k < 65536 → ((x : Bytes) → words_on ws1 w1 x ≡ words_on ws w (c ∷ x)) →
+line_shift : (k : ℕ) (ws : List Bytes) (w : Bytes) (ws1 : List Bytes) (w1 : Bytes) (m c : ℕ) (cs : Bytes) → k < max_line_bytes → ((x : Bytes) → words_on ws1 w1 x ≡ words_on ws w (c ∷ x)) →
     line_by (k + 1) ws1 w1 m cs ≡ line_by k ws w (1 + m) (c ∷ cs)
 line_shift k ws w ws1 w1 m c cs h same =
     let e1 : (k + 1) + m ≡ k + (1 + m) = omega arith in
     let e2 : suc m ≡ 1 + m = omega arith in
-    let e3 : suc (65536 - (k + 1)) ≡ 65536 - k = omega arith in
+    let e3 : suc (max_line_bytes - (k + 1)) ≡ max_line_bytes - k = omega arith in
     let e5 : suc (m + 1) ≡ (1 + m) + 1 = omega arith in
-    ap (λ (i : ℕ). cond (nat_lt 65536 i) (Faulty InlineTooLong (drop (65536 - (k + 1)) cs)) (cond (nat_lt m (length cs)) (Whole (words_on ws1 w1 (take m cs)) (drop (m + 1) cs)) Short)) e1
-    ∙ ap (λ (i : ℕ). cond (nat_lt 65536 (k + (1 + m))) (Faulty InlineTooLong (drop i (c ∷ cs))) (cond (nat_lt m (length cs)) (Whole (words_on ws1 w1 (take m cs)) (drop (m + 1) cs)) Short)) e3
-    ∙ ap (λ (t : Bool). cond (nat_lt 65536 (k + (1 + m))) (Faulty InlineTooLong (drop (65536 - k) (c ∷ cs))) (cond t (Whole (words_on ws1 w1 (take m cs)) (drop (m + 1) cs)) Short)) (sym (lt_suc m (length cs)))
-    ∙ ap (λ (v : List Bytes). cond (nat_lt 65536 (k + (1 + m))) (Faulty InlineTooLong (drop (65536 - k) (c ∷ cs))) (cond (nat_lt (suc m) (suc (length cs))) (Whole v (drop (m + 1) cs)) Short)) (same (take m cs))
-    ∙ ap (λ (i : ℕ). cond (nat_lt 65536 (k + (1 + m))) (Faulty InlineTooLong (drop (65536 - k) (c ∷ cs))) (cond (nat_lt i (length (c ∷ cs))) (Whole (words_on ws w (take i (c ∷ cs))) (drop (suc (m + 1)) (c ∷ cs))) Short)) e2
-    ∙ ap (λ (i : ℕ). cond (nat_lt 65536 (k + (1 + m))) (Faulty InlineTooLong (drop (65536 - k) (c ∷ cs))) (cond (nat_lt (1 + m) (length (c ∷ cs))) (Whole (words_on ws w (take (1 + m) (c ∷ cs))) (drop i (c ∷ cs))) Short)) e5
+    ap (λ (i : ℕ). cond (nat_lt max_line_bytes i) (Faulty InlineTooLong (drop (max_line_bytes - (k + 1)) cs)) (cond (nat_lt m (length cs)) (Whole (words_on ws1 w1 (take m cs)) (drop (m + 1) cs)) Short)) e1
+    ∙ ap (λ (i : ℕ). cond (nat_lt max_line_bytes (k + (1 + m))) (Faulty InlineTooLong (drop i (c ∷ cs))) (cond (nat_lt m (length cs)) (Whole (words_on ws1 w1 (take m cs)) (drop (m + 1) cs)) Short)) e3
+    ∙ ap (λ (t : Bool). cond (nat_lt max_line_bytes (k + (1 + m))) (Faulty InlineTooLong (drop (max_line_bytes - k) (c ∷ cs))) (cond t (Whole (words_on ws1 w1 (take m cs)) (drop (m + 1) cs)) Short)) (sym (lt_suc m (length cs)))
+    ∙ ap (λ (v : List Bytes). cond (nat_lt max_line_bytes (k + (1 + m))) (Faulty InlineTooLong (drop (max_line_bytes - k) (c ∷ cs))) (cond (nat_lt (suc m) (suc (length cs))) (Whole v (drop (m + 1) cs)) Short)) (same (take m cs))
+    ∙ ap (λ (i : ℕ). cond (nat_lt max_line_bytes (k + (1 + m))) (Faulty InlineTooLong (drop (max_line_bytes - k) (c ∷ cs))) (cond (nat_lt i (length (c ∷ cs))) (Whole (words_on ws w (take i (c ∷ cs))) (drop (suc (m + 1)) (c ∷ cs))) Short)) e2
+    ∙ ap (λ (i : ℕ). cond (nat_lt max_line_bytes (k + (1 + m))) (Faulty InlineTooLong (drop (max_line_bytes - k) (c ∷ cs))) (cond (nat_lt (1 + m) (length (c ∷ cs))) (Whole (words_on ws w (take (1 + m) (c ∷ cs))) (drop i (c ∷ cs))) Short)) e5
 
 abbrev line_length : Bytes → ℕ
 line_length text = prefix_len (λ c. not (c == 10)) text
 
-line_when : (k : ℕ) (ws : List Bytes) (w : Bytes) (c : ℕ) (cs : Bytes) → k ≤ 65536 → (e t s : Bool) → (c == 10) ≡ e → nat_lt k 65536 ≡ t → (c == 32) ≡ s →
-    ((us : List Bytes) (v : Bytes) → k + 1 ≤ 65536 → line_on (k + 1) us v cs ≡ line_by (k + 1) us v (line_length cs) cs) →
+line_when : (k : ℕ) (ws : List Bytes) (w : Bytes) (c : ℕ) (cs : Bytes) → k ≤ max_line_bytes → (e t s : Bool) → (c == 10) ≡ e → nat_lt k max_line_bytes ≡ t → (c == 32) ≡ s →
+    ((us : List Bytes) (v : Bytes) → k + 1 ≤ max_line_bytes → line_on (k + 1) us v cs ≡ line_by (k + 1) us v (line_length cs) cs) →
     cond e (Whole (ws ++ one_word (without_return w)) cs) (elim t [
       | true ↦ elim s [ true ↦ line_on (k + 1) (ws ++ one_word w) [] cs | false ↦ line_on (k + 1) ws (w ++ c ∷ []) cs ]
       | false ↦ Faulty InlineTooLong (c ∷ cs)
     ]) ≡ line_by k ws w (cond (not e) (1 + line_length cs) 0) (c ∷ cs)
 line_when k ws w c cs h true t s a b d ih =
     ap (λ (u : Bool). cond u (Whole (ws ++ one_word (without_return w)) cs) Short) (sym (some_more (length cs)))
-    ∙ ap (λ (u : Bool). cond u (Faulty InlineTooLong (drop (65536 - k) (c ∷ cs))) (cond (nat_lt 0 (suc (length cs))) (Whole (ws ++ one_word (without_return w)) cs) Short)) (sym (few k h))
+    ∙ ap (λ (u : Bool). cond u (Faulty InlineTooLong (drop (max_line_bytes - k) (c ∷ cs))) (cond (nat_lt 0 (suc (length cs))) (Whole (ws ++ one_word (without_return w)) cs) Short)) (sym (few k h))
 line_when k ws w c cs h false false s a b d ih =
     ap (λ (i : ℕ). Faulty InlineTooLong (drop i (c ∷ cs))) (sym (none_left k b))
-    ∙ ap (λ (u : Bool). cond u (Faulty InlineTooLong (drop (65536 - k) (c ∷ cs))) (cond (nat_lt (1 + line_length cs) (length (c ∷ cs))) (Whole (words_on ws w (take (1 + line_length cs) (c ∷ cs))) (drop ((1 + line_length cs) + 1) (c ∷ cs))) Short)) (sym (too_many k (line_length cs) b))
+    ∙ ap (λ (u : Bool). cond u (Faulty InlineTooLong (drop (max_line_bytes - k) (c ∷ cs))) (cond (nat_lt (1 + line_length cs) (length (c ∷ cs))) (Whole (words_on ws w (take (1 + line_length cs) (c ∷ cs))) (drop ((1 + line_length cs) + 1) (c ∷ cs))) Short)) (sym (too_many k (line_length cs) b))
 line_when k ws w c cs h false true true a b d ih =
-    let lt : k < 65536 = below k b in
-    let le : k + 1 ≤ 65536 = omega arith in
+    let lt : k < max_line_bytes = below k b in
+    let le : k + 1 ≤ max_line_bytes = omega arith in
     ih (ws ++ one_word w) [] le ∙ line_shift k ws w (ws ++ one_word w) [] (line_length cs) c cs lt
     (λ x. ap (λ (u : Bool). elim u [ true ↦ words_on (ws ++ one_word w) [] x | false ↦ words_on ws (w ++ c ∷ []) x ]) (sym d))
 line_when k ws w c cs h false true false a b d ih =
-    let lt : k < 65536 = below k b in
-    let le : k + 1 ≤ 65536 = omega arith in
+    let lt : k < max_line_bytes = below k b in
+    let le : k + 1 ≤ max_line_bytes = omega arith in
     ih ws (w ++ c ∷ []) le ∙ line_shift k ws w ws (w ++ c ∷ []) (line_length cs) c cs lt
     (λ x. ap (λ (u : Bool). elim u [ true ↦ words_on (ws ++ one_word w) [] x | false ↦ words_on ws (w ++ c ∷ []) x ]) (sym d))
 
-line_on_is : (k : ℕ) (ws : List Bytes) (w text : Bytes) → k ≤ 65536 → line_on k ws w text ≡ line_by k ws w (line_length text) text
-line_on_is k ws w [] h = ap (λ (t : Bool). cond t (Faulty InlineTooLong (drop (65536 - k) [])) Short) (sym (few k h))
-line_on_is k ws w (c ∷ cs) h = line_when k ws w c cs h (c == 10) (nat_lt k 65536) (c == 32) refl refl refl (λ us v le. line_on_is (k + 1) us v cs le)
+line_on_is : (k : ℕ) (ws : List Bytes) (w text : Bytes) → k ≤ max_line_bytes → line_on k ws w text ≡ line_by k ws w (line_length text) text
+line_on_is k ws w [] h = ap (λ (t : Bool). cond t (Faulty InlineTooLong (drop (max_line_bytes - k) [])) Short) (sym (few k h))
+line_on_is k ws w (c ∷ cs) h = line_when k ws w c cs h (c == 10) (nat_lt k max_line_bytes) (c == 32) refl refl refl (λ us v le. line_on_is (k + 1) us v cs le)
 
 line_of_is : (n : ℕ) (text : Bytes) → line_of n text ≡ line_by 0 [] [] n text
 line_of_is n text =
     let none : n ≡ 0 + n = omega arith in
-    ap (λ (ws : Message). cond (nat_lt 65536 n) (Faulty InlineTooLong (drop 65536 text)) (cond (nat_lt n (length text)) (Whole ws (drop (n + 1) text)) Short)) (sym (line_words (take n text)))
-    ∙ ap (λ (i : ℕ). cond (nat_lt 65536 i) (Faulty InlineTooLong (drop 65536 text)) (cond (nat_lt n (length text)) (Whole (words_on [] [] (take n text)) (drop (n + 1) text)) Short)) none
+    ap (λ (ws : Message). cond (nat_lt max_line_bytes n) (Faulty InlineTooLong (drop max_line_bytes text)) (cond (nat_lt n (length text)) (Whole ws (drop (n + 1) text)) Short)) (sym (line_words (take n text)))
+    ∙ ap (λ (i : ℕ). cond (nat_lt max_line_bytes i) (Faulty InlineTooLong (drop max_line_bytes text)) (cond (nat_lt n (length text)) (Whole (words_on [] [] (take n text)) (drop (n + 1) text)) Short)) none
 
 pub line_at_is : (text : Bytes) → line_at text ≡ line_on 0 [] [] text
 line_at_is text = line_of_is (line_length text) text ∙ sym (line_on_is 0 [] [] text (omega arith))

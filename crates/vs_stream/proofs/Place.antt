@@ -4,6 +4,7 @@ use Rattle.std.proofs.lemmas.Grind.{common_steps}
 use Rattle.std.proofs.lemmas.List.{take_at, take-take, take-append-drop}
 use Rattle.std.proofs.lemmas.Bool.{cases_lt}
 use Rattle.std.specs.Char.{is_ascii_digit}
+use Rattle.vs_defs.specs.Limits.{max_count_digits, max_line_bytes, max_message_bytes, max_word_bytes}
 use Rattle.vs_defs.specs.Bytes.{Bytes}
 use Rattle.vs_defs.specs.Stream.{Message, Fault, BadCount, ExpectedBulk, BadLength, BadEnd, InlineTooLong, Inline, Reading, Whole, Short, Faulty, without_return, MessageTooLarge, LengthTooLarge, count_past, length_past, digit_onto, message_at, End, Border, Within, Broken, EndsAs, Splits, place_in}
 use Rattle.vs_stream.specs.Machine.{State, start, star, minus, minus_one, count, count_end, bulk, len, len_end, body, body_end, line, Next, Goes, Gives, Breaks, count_step, len_step, line_step, one_word, begin_bulks, after_bulk, step, reads}
@@ -148,11 +149,11 @@ Fits minus = Unit {0}
 Fits minus_one = Unit {0}
 Fits (count k n) = nat_lt 0 k ≡ true
 Fits (count_end n) = Unit {0}
-Fits (bulk l sum ws) = nat_lt 4194304 (sum + 0) ≡ false
-Fits (len l sum ws k n) = (nat_lt 4194304 (sum + n) ≡ false) × ((nat_lt 0 k ≡ true) ⊎ ((k ≡ 0) × (n ≡ 0)))
-Fits (len_end l sum ws n) = nat_lt 4194304 (sum + n) ≡ false
-Fits (body l sum ws n w) = nat_lt 4194304 (sum + 0) ≡ false
-Fits (body_end l sum ws w) = nat_lt 4194304 (sum + 0) ≡ false
+Fits (bulk l sum ws) = nat_lt max_message_bytes (sum + 0) ≡ false
+Fits (len l sum ws k n) = (nat_lt max_message_bytes (sum + n) ≡ false) × ((nat_lt 0 k ≡ true) ⊎ ((k ≡ 0) × (n ≡ 0)))
+Fits (len_end l sum ws n) = nat_lt max_message_bytes (sum + n) ≡ false
+Fits (body l sum ws n w) = nat_lt max_message_bytes (sum + 0) ≡ false
+Fits (body_end l sum ws w) = nat_lt max_message_bytes (sum + 0) ≡ false
 Fits (line k ws w) = Unit {0}
 
 abbrev pub FitsNext : Next → Type 0
@@ -163,7 +164,7 @@ FitsNext (Breaks f) = Unit {0}
 some : (k : ℕ) → nat_lt 0 (k + 1) ≡ true
 some k = grind (arith, common_steps)
 
-no_more : (n : ℕ) → nat_lt 4194304 n ≡ false → nat_lt 4194304 (n + 0) ≡ false
+no_more : (n : ℕ) → nat_lt max_message_bytes n ≡ false → nat_lt max_message_bytes (n + 0) ≡ false
 no_more n h = grind (arith, common_steps)
 
 cond_fits : (t : Bool) (x y : Next) → FitsNext x → FitsNext y → FitsNext (cond t x y)
@@ -176,42 +177,42 @@ elim_fits false x y p q = q
 
 fits_count : (k n c : ℕ) → FitsNext (count_step k n c)
 fits_count k n c =
-    elim_fits (is_ascii_digit c && nat_lt k 7)
+    elim_fits (is_ascii_digit c && nat_lt k max_count_digits)
     (elim (count_past (digit_onto n c)).0 [ true ↦ Breaks (count_past (digit_onto n c)).1 | false ↦ Goes (count (k + 1) (digit_onto n c)) ])
     (elim (nat_lt 0 k) [ true ↦ cond (c == 13) (Goes (count_end n)) (Breaks BadCount) | false ↦ Breaks BadCount ])
     (elim_fits (count_past (digit_onto n c)).0 (Breaks (count_past (digit_onto n c)).1) (Goes (count (k + 1) (digit_onto n c))) tt (some k))
     (elim_fits (nat_lt 0 k) (cond (c == 13) (Goes (count_end n)) (Breaks BadCount)) (Breaks BadCount) (cond_fits (c == 13) (Goes (count_end n)) (Breaks BadCount) tt tt) tt)
 
 -- a length that is not past the limits
-sum_small : (large : Bool) (sum n : ℕ) → (cond {A = Bool × Fault} large (true, LengthTooLarge) (nat_lt 4194304 (sum + n), MessageTooLarge)).0 ≡ false → nat_lt 4194304 (sum + n) ≡ false
+sum_small : (large : Bool) (sum n : ℕ) → (cond {A = Bool × Fault} large (true, LengthTooLarge) (nat_lt max_message_bytes (sum + n), MessageTooLarge)).0 ≡ false → nat_lt max_message_bytes (sum + n) ≡ false
 sum_small true sum n h = cc
 sum_small false sum n h = h
 
-digit_fits : (t : Bool) (f : Fault) (l sum : ℕ) (ws : List Bytes) (k m : ℕ) → (t ≡ false → nat_lt 4194304 (sum + m) ≡ false) →
+digit_fits : (t : Bool) (f : Fault) (l sum : ℕ) (ws : List Bytes) (k m : ℕ) → (t ≡ false → nat_lt max_message_bytes (sum + m) ≡ false) →
     FitsNext (elim t [ true ↦ Breaks f | false ↦ Goes (len l sum ws (k + 1) m) ])
 digit_fits true f l sum ws k m h = tt
 digit_fits false f l sum ws k m h = (h refl, inl (some k))
 
-fits_len : (l sum : ℕ) (ws : List Bytes) (k n c : ℕ) → nat_lt 4194304 (sum + n) ≡ false → FitsNext (len_step l sum ws k n c)
+fits_len : (l sum : ℕ) (ws : List Bytes) (k n c : ℕ) → nat_lt max_message_bytes (sum + n) ≡ false → FitsNext (len_step l sum ws k n c)
 fits_len l sum ws k n c h =
-    elim_fits (is_ascii_digit c && nat_lt k 7)
+    elim_fits (is_ascii_digit c && nat_lt k max_count_digits)
     (elim (length_past sum (digit_onto n c)).0 [ true ↦ Breaks (length_past sum (digit_onto n c)).1 | false ↦ Goes (len l sum ws (k + 1) (digit_onto n c)) ])
     (elim (nat_lt 0 k) [ true ↦ cond (c == 13) (Goes (len_end l sum ws n)) (Breaks BadLength) | false ↦ Breaks BadLength ])
-    (digit_fits (length_past sum (digit_onto n c)).0 (length_past sum (digit_onto n c)).1 l sum ws k (digit_onto n c) (sum_small (nat_lt 65536 (digit_onto n c)) sum (digit_onto n c)))
+    (digit_fits (length_past sum (digit_onto n c)).0 (length_past sum (digit_onto n c)).1 l sum ws k (digit_onto n c) (sum_small (nat_lt max_word_bytes (digit_onto n c)) sum (digit_onto n c)))
     (elim_fits (nat_lt 0 k) (cond (c == 13) (Goes (len_end l sum ws n)) (Breaks BadLength)) (Breaks BadLength) (cond_fits (c == 13) (Goes (len_end l sum ws n)) (Breaks BadLength) h tt) tt)
 
 fits_line : (k : ℕ) (ws : List Bytes) (w : Bytes) (c : ℕ) → FitsNext (line_step k ws w c)
 fits_line k ws w c =
     cond_fits (c == 10) (Gives (ws ++ one_word (without_return w)))
-    (cond (nat_lt k 65536) (cond (c == 32) (Goes (line (k + 1) (ws ++ one_word w) [])) (Goes (line (k + 1) ws (w ++ c ∷ [])))) (Breaks InlineTooLong)) tt
-    (cond_fits (nat_lt k 65536) (cond (c == 32) (Goes (line (k + 1) (ws ++ one_word w) [])) (Goes (line (k + 1) ws (w ++ c ∷ [])))) (Breaks InlineTooLong)
+    (cond (nat_lt k max_line_bytes) (cond (c == 32) (Goes (line (k + 1) (ws ++ one_word w) [])) (Goes (line (k + 1) ws (w ++ c ∷ [])))) (Breaks InlineTooLong)) tt
+    (cond_fits (nat_lt k max_line_bytes) (cond (c == 32) (Goes (line (k + 1) (ws ++ one_word w) [])) (Goes (line (k + 1) ws (w ++ c ∷ [])))) (Breaks InlineTooLong)
     (cond_fits (c == 32) (Goes (line (k + 1) (ws ++ one_word w) [])) (Goes (line (k + 1) ws (w ++ c ∷ []))) tt tt) tt)
 
 fits_begin : (n : ℕ) → FitsNext (begin_bulks n)
 fits_begin zero = tt
 fits_begin (suc l) = refl
 
-fits_after : (l sum : ℕ) (ws : List Bytes) → nat_lt 4194304 (sum + 0) ≡ false → FitsNext (after_bulk l sum ws)
+fits_after : (l sum : ℕ) (ws : List Bytes) → nat_lt max_message_bytes (sum + 0) ≡ false → FitsNext (after_bulk l sum ws)
 fits_after zero sum ws h = tt
 fits_after (suc l) sum ws h = h
 
@@ -247,30 +248,30 @@ onto lines x c more = elim x [ Goes t ↦ reads lines t more | Gives m ↦ Whole
 abbrev empty_bulk : Bytes → Bytes
 empty_bulk more = 36 ∷ 48 ∷ 13 ∷ 10 ∷ 13 ∷ 10 ∷ more
 
-zero_digit : (lines : Bool) (l sum : ℕ) (ws : List Bytes) (more : Bytes) → nat_lt 4194304 (sum + 0) ≡ false → reads lines (len l sum ws 0 0) (48 ∷ more) ≡ reads lines (len l sum ws 1 0) more
+zero_digit : (lines : Bool) (l sum : ℕ) (ws : List Bytes) (more : Bytes) → nat_lt max_message_bytes (sum + 0) ≡ false → reads lines (len l sum ws 0 0) (48 ∷ more) ≡ reads lines (len l sum ws 1 0) more
 zero_digit lines l sum ws more h =
     ap (λ (t : Bool). onto lines (elim t [ true ↦ Breaks MessageTooLarge | false ↦ Goes (len l sum ws 1 0) ]) 48 more) h
 
-empty_is : (lines : Bool) (l sum : ℕ) (ws : List Bytes) (more : Bytes) → nat_lt 4194304 (sum + 0) ≡ false →
+empty_is : (lines : Bool) (l sum : ℕ) (ws : List Bytes) (more : Bytes) → nat_lt max_message_bytes (sum + 0) ≡ false →
     reads lines (bulk l sum ws) (empty_bulk more) ≡ onto lines (after_bulk l (sum + 0) (ws ++ [] ∷ [])) 10 more
 empty_is lines l sum ws more h = zero_digit lines l sum ws (13 ∷ 10 ∷ 13 ∷ 10 ∷ more) h
 
-finish_after : (lines : Bool) (l sum : ℕ) (ws : List Bytes) → nat_lt 4194304 (sum + 0) ≡ false → (more : Bytes) × (m : Message) × (onto lines (after_bulk l sum ws) 10 more ≡ Whole m [])
+finish_after : (lines : Bool) (l sum : ℕ) (ws : List Bytes) → nat_lt max_message_bytes (sum + 0) ≡ false → (more : Bytes) × (m : Message) × (onto lines (after_bulk l sum ws) 10 more ≡ Whole m [])
 finish_after lines zero sum ws h = ([], ws, refl)
 finish_after lines (suc l) sum ws h =
     let f = finish_after lines l (sum + 0) (ws ++ [] ∷ []) (no_more (sum + 0) h) in
     (empty_bulk f.0, f.1, empty_is lines l sum ws f.0 h ∙ f.2)
 
-finish_body : (lines : Bool) (l sum : ℕ) (ws : List Bytes) (n : ℕ) (w : Bytes) → nat_lt 4194304 (sum + 0) ≡ false → Finishes lines (body l sum ws n w)
+finish_body : (lines : Bool) (l sum : ℕ) (ws : List Bytes) (n : ℕ) (w : Bytes) → nat_lt max_message_bytes (sum + 0) ≡ false → Finishes lines (body l sum ws n w)
 finish_body lines l sum ws zero w h = let f = finish_after lines l sum (ws ++ w ∷ []) h in (13 ∷ 10 ∷ f.0, f.1, f.2)
 finish_body lines l sum ws (suc n) w h = let f = finish_body lines l sum ws n (w ++ 0 ∷ []) h in (0 ∷ f.0, f.1, f.2)
 
-finish_len : (lines : Bool) (l sum : ℕ) (ws : List Bytes) (k n : ℕ) → nat_lt 4194304 (sum + n) ≡ false → nat_lt 0 k ≡ true → Finishes lines (len l sum ws k n)
+finish_len : (lines : Bool) (l sum : ℕ) (ws : List Bytes) (k n : ℕ) → nat_lt max_message_bytes (sum + n) ≡ false → nat_lt 0 k ≡ true → Finishes lines (len l sum ws k n)
 finish_len lines l sum ws k n h some =
     let f = finish_body lines l (sum + n) ws n [] (no_more (sum + n) h) in
     (13 ∷ 10 ∷ f.0, f.1, ap (λ (t : Bool). onto lines (elim t [ true ↦ Goes (len_end l sum ws n) | false ↦ Breaks BadLength ]) 13 (10 ∷ f.0)) some ∙ f.2)
 
-finish_zero : (lines : Bool) (l sum : ℕ) (ws : List Bytes) → nat_lt 4194304 (sum + 0) ≡ false → Finishes lines (len l sum ws 0 0)
+finish_zero : (lines : Bool) (l sum : ℕ) (ws : List Bytes) → nat_lt max_message_bytes (sum + 0) ≡ false → Finishes lines (len l sum ws 0 0)
 finish_zero lines l sum ws h = let f = finish_len lines l sum ws 1 0 h refl in (48 ∷ f.0, f.1, zero_digit lines l sum ws f.0 h ∙ f.2)
 
 finish_begin : (lines : Bool) (n : ℕ) → (more : Bytes) × (m : Message) × (onto lines (begin_bulks n) 10 more ≡ Whole m [])
@@ -294,7 +295,7 @@ finish lines (bulk l sum ws) h =
 finish lines (len l sum ws k n) (h, inl s) = finish_len lines l sum ws k n h s
 finish lines (len l sum ws k n) (h, inr z) =
     subst (λ (i : ℕ). Finishes lines (len l sum ws i n)) (sym z.0) (subst (λ (i : ℕ). Finishes lines (len l sum ws 0 i)) (sym z.1)
-    (finish_zero lines l sum ws (subst (λ (i : ℕ). nat_lt 4194304 (sum + i) ≡ false) z.1 h)))
+    (finish_zero lines l sum ws (subst (λ (i : ℕ). nat_lt max_message_bytes (sum + i) ≡ false) z.1 h)))
 finish lines (len_end l sum ws n) h = let f = finish_body lines l (sum + n) ws n [] (no_more (sum + n) h) in (10 ∷ f.0, f.1, f.2)
 finish lines (body l sum ws n w) h = finish_body lines l sum ws n w h
 finish lines (body_end l sum ws w) h = let f = finish_after lines l sum (ws ++ w ∷ []) h in (10 ∷ f.0, f.1, f.2)

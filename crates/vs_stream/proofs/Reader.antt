@@ -1,6 +1,7 @@
 -- One byte more, and what callers learn.
 use Rattle.std.proofs.Common.{◌≡◌, ◌≤◌, ◌+◌, ◌-◌, ℕ, zero, suc, Bool, true, false, cond, nat_lt, ◌&&◌, ◌==◌, List, [], ◌∷◌, ◌++◌, length, refl, sym, ap, subst, ◌∙◌, arith, append_assoc, append-nil, length-append}
 use Rattle.std.specs.Char.{is_ascii_digit}
+use Rattle.vs_defs.specs.Limits.{max_count_digits, max_line_bytes}
 use Rattle.vs_defs.specs.Bytes.{Bytes}
 use Rattle.vs_defs.specs.Stream.{Message, Fault, BadCount, ExpectedBulk, BadLength, BadEnd, InlineTooLong, Inline, Reading, Whole, Short, Faulty, count_past, length_past, digit_onto, message_at, End, Border, Within, Broken, EndsAs, Splits, has_word, with_words, without_return}
 use Rattle.vs_stream.specs.Machine.{State, start, star, minus, minus_one, count, count_end, bulk, len, len_end, body, body_end, line, Next, Goes, Gives, Breaks, count_step, len_step, line_step, begin_bulks, after_bulk, one_word, step, reads}
@@ -43,7 +44,7 @@ elim_next false x y p q = q
 
 inside_count : (k n c : ℕ) → InsideNext (count_step k n c)
 inside_count k n c =
-    elim_next (is_ascii_digit c && nat_lt k 7)
+    elim_next (is_ascii_digit c && nat_lt k max_count_digits)
     (elim (count_past (digit_onto n c)).0 [ true ↦ Breaks (count_past (digit_onto n c)).1 | false ↦ Goes (count (k + 1) (digit_onto n c)) ])
     (elim (nat_lt 0 k) [ true ↦ cond (c == 13) (Goes (count_end n)) (Breaks BadCount) | false ↦ Breaks BadCount ])
     (elim_next (count_past (digit_onto n c)).0 (Breaks (count_past (digit_onto n c)).1) (Goes (count (k + 1) (digit_onto n c))) tt tt)
@@ -51,7 +52,7 @@ inside_count k n c =
 
 inside_len : (l sum : ℕ) (ws : List Bytes) (k n c : ℕ) → InsideNext (len_step l sum ws k n c)
 inside_len l sum ws k n c =
-    elim_next (is_ascii_digit c && nat_lt k 7)
+    elim_next (is_ascii_digit c && nat_lt k max_count_digits)
     (elim (length_past sum (digit_onto n c)).0 [ true ↦ Breaks (length_past sum (digit_onto n c)).1 | false ↦ Goes (len l sum ws (k + 1) (digit_onto n c)) ])
     (elim (nat_lt 0 k) [ true ↦ cond (c == 13) (Goes (len_end l sum ws n)) (Breaks BadLength) | false ↦ Breaks BadLength ])
     (elim_next (length_past sum (digit_onto n c)).0 (Breaks (length_past sum (digit_onto n c)).1) (Goes (len l sum ws (k + 1) (digit_onto n c))) tt tt)
@@ -60,8 +61,8 @@ inside_len l sum ws k n c =
 inside_line : (k : ℕ) (ws : List Bytes) (w : Bytes) (c : ℕ) → InsideNext (line_step k ws w c)
 inside_line k ws w c =
     cond_next (c == 10) (Gives (ws ++ one_word (without_return w)))
-    (cond (nat_lt k 65536) (cond (c == 32) (Goes (line (k + 1) (ws ++ one_word w) [])) (Goes (line (k + 1) ws (w ++ c ∷ [])))) (Breaks InlineTooLong)) tt
-    (cond_next (nat_lt k 65536) (cond (c == 32) (Goes (line (k + 1) (ws ++ one_word w) [])) (Goes (line (k + 1) ws (w ++ c ∷ [])))) (Breaks InlineTooLong)
+    (cond (nat_lt k max_line_bytes) (cond (c == 32) (Goes (line (k + 1) (ws ++ one_word w) [])) (Goes (line (k + 1) ws (w ++ c ∷ [])))) (Breaks InlineTooLong)) tt
+    (cond_next (nat_lt k max_line_bytes) (cond (c == 32) (Goes (line (k + 1) (ws ++ one_word w) [])) (Goes (line (k + 1) ws (w ++ c ∷ [])))) (Breaks InlineTooLong)
     (cond_next (c == 32) (Goes (line (k + 1) (ws ++ one_word w) [])) (Goes (line (k + 1) ws (w ++ c ∷ []))) tt tt) tt)
 
 inside_begin : (n : ℕ) → InsideNext (begin_bulks n)

@@ -2,6 +2,7 @@
 use Rattle.std.proofs.Common.{◌≡◌, ◌≤◌, ◌+◌, ℕ, zero, suc, Bool, true, false, cond, ◌&&◌, ◌==◌, nat_lt, List, [], ◌∷◌, ◌++◌, length, take, drop, refl, sym, ap, ◌∙◌, arith, append_assoc, append-nil, length-take}
 use Rattle.std.proofs.lemmas.Grind.{common_steps}
 use Rattle.std.specs.Char.{is_ascii_digit}
+use Rattle.vs_defs.specs.Limits.{max_count_digits, max_line_bytes}
 use Rattle.vs_defs.specs.Bytes.{Bytes}
 use Rattle.vs_defs.specs.Stream.{Message, Fault, BadCount, ExpectedBulk, BadLength, BadEnd, InlineTooLong, Inline, Reading, Whole, Short, Faulty, ◌>>=◌, byte_at, line_end_at, count_past, length_past, digit_onto, digits_at, bytes_at, bulks_at, array_at, line_at, message_at, without_return}
 use Rattle.vs_stream.specs.Machine.{State, start, star, minus, minus_one, count, count_end, bulk, len, len_end, body, body_end, line, Next, Goes, Gives, Breaks, count_step, begin_bulks, after_bulk, line_step, one_word, step, reads}
@@ -66,7 +67,7 @@ count_when lines false p false e f k n m c cs = refl
 
 count_is : (lines : Bool) (k n c : ℕ) (cs : Bytes) → digits_at BadCount count_past k n (c ∷ cs) >>= counted ≡ after lines (count_step k n c) c cs
 count_is lines k n c cs =
-    count_when lines (is_ascii_digit c && nat_lt k 7) (count_past (digit_onto n c)).0 (nat_lt 0 k) (c == 13) (count_past (digit_onto n c)).1 k n (digit_onto n c) c cs
+    count_when lines (is_ascii_digit c && nat_lt k max_count_digits) (count_past (digit_onto n c)).0 (nat_lt 0 k) (c == 13) (count_past (digit_onto n c)).1 k n (digit_onto n c) c cs
 
 len_when : (lines t p z e : Bool) (f : Fault) (l sum : ℕ) (ws : List Bytes) (k n m c : ℕ) (cs : Bytes) →
     ((elim t [
@@ -138,13 +139,13 @@ bulks_is lines (suc l) c cs = sym (same_reading (bulks_at (suc l) 0 cs))
 line_is : (lines : Bool) (k : ℕ) (ws : List Bytes) (w : Bytes) (c : ℕ) (cs : Bytes) → line_on k ws w (c ∷ cs) ≡ after lines (line_step k ws w c) c cs
 line_is lines k ws w c cs =
     elim (c == 10) as (λ t. cond t (Whole (ws ++ one_word (without_return w)) cs)
-    (elim (nat_lt k 65536) [
+    (elim (nat_lt k max_line_bytes) [
       | true ↦ elim (c == 32) [ true ↦ line_on (k + 1) (ws ++ one_word w) [] cs | false ↦ line_on (k + 1) ws (w ++ c ∷ []) cs ]
       | false ↦ Faulty InlineTooLong (c ∷ cs)
     ]) ≡ after lines (cond t (Gives (ws ++ one_word (without_return w)))
-    (cond (nat_lt k 65536) (cond (c == 32) (Goes (line (k + 1) (ws ++ one_word w) [])) (Goes (line (k + 1) ws (w ++ c ∷ [])))) (Breaks InlineTooLong))) c cs) [
+    (cond (nat_lt k max_line_bytes) (cond (c == 32) (Goes (line (k + 1) (ws ++ one_word w) [])) (Goes (line (k + 1) ws (w ++ c ∷ [])))) (Breaks InlineTooLong))) c cs) [
       | true ↦ refl
-      | false ↦ elim (nat_lt k 65536) as (λ t. (elim t [
+      | false ↦ elim (nat_lt k max_line_bytes) as (λ t. (elim t [
         | true ↦ elim (c == 32) [ true ↦ line_on (k + 1) (ws ++ one_word w) [] cs | false ↦ line_on (k + 1) ws (w ++ c ∷ []) cs ]
         | false ↦ Faulty InlineTooLong (c ∷ cs)
       ]) ≡ after lines (cond t (cond (c == 32) (Goes (line (k + 1) (ws ++ one_word w) [])) (Goes (line (k + 1) ws (w ++ c ∷ [])))) (Breaks InlineTooLong)) c cs) [
@@ -179,7 +180,7 @@ step_is lines (bulk l sum ws) c cs =
     elim (c == 36) as (λ t. (((cond t (Whole (tt {0}) cs) (Faulty ExpectedBulk (c ∷ cs)) >>= λ _ rest. digits_at BadLength (length_past sum) 0 0 rest >>= λ n more. bytes_at n more) >>= with_word l sum) >>= behind ws)
     ≡ after lines (cond t (Goes (len l sum ws 0 0)) (Breaks ExpectedBulk)) c cs) [ true ↦ refl | false ↦ refl ]
 step_is lines (len l sum ws k n) c cs =
-    len_when lines (is_ascii_digit c && nat_lt k 7) (length_past sum (digit_onto n c)).0 (nat_lt 0 k) (c == 13) (length_past sum (digit_onto n c)).1 l sum ws k n (digit_onto n c) c cs
+    len_when lines (is_ascii_digit c && nat_lt k max_count_digits) (length_past sum (digit_onto n c)).0 (nat_lt 0 k) (c == 13) (length_past sum (digit_onto n c)).1 l sum ws k n (digit_onto n c) c cs
 step_is lines (len_end l sum ws n) c cs =
     elim (c == 10) as (λ t. ((((cond t (Whole (tt {0}) cs) (Faulty BadLength (c ∷ cs)) >>= λ _ rest. Whole n rest) >>= bytes_at) >>= with_word l sum) >>= behind ws)
     ≡ after lines (cond t (Goes (body l (sum + n) ws n [])) (Breaks BadLength)) c cs) [

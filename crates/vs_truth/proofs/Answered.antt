@@ -1,16 +1,15 @@
 -- The first of what the scan found are the definitions' nearest members.
-use Rattle.std.proofs.Common.{subst, ◌≡◌, ◌≢◌, ℕ, zero, suc, ◌+◌, ◌<◌, ◌≤◌, Bool, true, false, cond, List, [], ◌∷◌, ◌++◌, length, take, refl, sym, ap, ◌∙◌, arith, map, inl, inr, take_all, append_assoc, length-append}
+use Rattle.std.proofs.Common.{subst, ◌≡◌, ◌≢◌, ℕ, zero, suc, ◌+◌, ◌<◌, ◌≤◌, Bool, true, false, cond, List, [], ◌∷◌, ◌++◌, length, take, refl, sym, ap, ◌∙◌, arith, map, append_assoc, length-append}
 use Rattle.std.specs.Prelude.{slice_get, Some, filter, min}
 use Rattle.std.specs.List.{AllByRecursion}
 use Rattle.std.specs.Ordering.{nat_cmp, ordering_then, is_gt}
 use Rattle.std.specs.declared.cmp.Ordering.{Ordering}
 use Rattle.std.specs.declared.cmp.Ordering.TheVariants.{Less, Equal, Greater}
 use Rattle.std.proofs.Math.Seq.{get_or-append_seam}
-use Rattle.std.proofs.lemmas.Bool.{cases_lt}
 use Rattle.std.proofs.lemmas.Bool.Decides.{nat_tests}
 use Rattle.std.proofs.lemmas.Map.Lookups.{exact_bytes}
 use Rattle.std.proofs.lemmas.Option.{slice_get-get_or}
-use Rattle.std.proofs.lemmas.List.{take-map}
+use Rattle.std.proofs.lemmas.List.{length-map, take-map}
 use Rattle.std.proofs.lemmas.List.Elements.{All-from_recursion, recursion_from_All}
 use Rattle.std.proofs.lemmas.List.Sorted.{All-permutation, length_permutation}
 use Rattle.vs_defs.specs.Vector.{Vector, ham}
@@ -23,7 +22,7 @@ use Rattle.vs_truth.specs.declared.candidate.Hit.{Hit}
 use Rattle.vs_truth.specs.declared.candidate.Candidate.{Candidate}
 use Rattle.vs_truth.specs.Nearest.{AreHits, nearest_passing}
 use Rattle.vs_truth.specs.Nears.{Near, near_cmp, near_of, near_at, near_hit, nears_of, placed_from, candidate_hit}
-use Rattle.vs_truth.proofs.Order.{long_map}
+use Rattle.vs_laws.proofs.Lists.{take_least}
 
 abbrev pub Placed : Type 0
 Placed = ℕ × Member
@@ -51,15 +50,6 @@ all_take P (suc n) (x ∷ xs) h = (h.0, all_take P n xs h.1)
 
 all_sorted : {A : Type 0} (cmp : A → A → Ordering) (P : A → Type 0) (xs : List A) → AllByRecursion P xs → AllByRecursion P (sort_by cmp xs)
 all_sorted cmp P xs h = recursion_from_All P (sort_by cmp xs) (All-permutation P xs (sort_by cmp xs) (sort_permutes cmp xs) (All-from_recursion P xs h))
-
-least_is : (count n : ℕ) → count ≤ n → min count n ≡ count
-least_is count n h = omega arith
-
-take_least : {A : Type 0} (count n : ℕ) (xs : List A) → length xs ≤ n → take (min count n) xs ≡ take count xs
-take_least count n xs h = elim (cases_lt n count) [
-  | inl over ↦ take_all (min count n) xs (omega arith) ∙ sym (take_all count xs (omega arith))
-  | inr under ↦ ap (λ k. take k xs) (least_is count n under)
-]
 
 -- ---- sorting what is seen of elements
 
@@ -179,7 +169,7 @@ answered p q count members xs hits made found =
     let ranked : List Placed = sort_by (placed_cmp q) rows in
     let first : List Placed = take count ranked in
     let few : length (sort_by near_cmp (nears_of p q members)) ≤ length members
-    = omega (arith, length_permutation (nears_of p q members) (sort_by near_cmp (nears_of p q members)) (sort_permutes near_cmp (nears_of p q members)), long_map (near_at q) rows, placed_few p 0 members) in
+    = omega (arith, length_permutation (nears_of p q members) (sort_by near_cmp (nears_of p q members)) (sort_permutes near_cmp (nears_of p q members)), length-map rows (near_at q), placed_few p 0 members) in
     let nears : map near_of xs ≡ map (near_at q) first
     = found ∙ take_least count (length members) (sort_by near_cmp (nears_of p q members)) few ∙ ap (take count) (sym (sort_seen q rows)) ∙ take-map (near_at q) count ranked in
     let members_are : map member_in first ≡ nearest_passing p count q members = sym (take-map member_in count ranked) ∙ ap (take count) (sort_members p q 0 members) in

@@ -2,7 +2,7 @@
 use Rattle.std.proofs.Common.{◌≡◌, ℕ, ◌+◌, ◌<◌, ◌≤◌, ◌-◌, Bool, true, false, cond, List, [], ◌∷◌, length, get_or, map, take, refl, sym, ap, ◌∙◌, subst, arith, heap_items, heap_len, Global}
 use Rattle.std.specs.Prelude.{Option, Some, None, IsSome, IfSome, slice_get, nat_lt, nat_le, ◌&&◌}
 use Rattle.std.specs.List.Sorted.{IsPermutation, IsSortedBy}
-use Rattle.std.specs.Ordering.{nat_cmp, ordering_then, is_lt, is_gt}
+use Rattle.std.specs.Ordering.{nat_cmp, ordering_then, is_gt}
 use Rattle.std.specs.Option.{option_map_or}
 use Rattle.std.specs.BinaryHeap.{IsHeap, IsUpperBound, PopsGreatest}
 use Rattle.std.specs.Cmp.{IsTotalOrder, nat_cmp_is, then_total, on_total, nat_cmp_total}
@@ -11,12 +11,13 @@ use Rattle.std.specs.declared.cmp.Ordering.TheVariants.{Less, Equal, Greater}
 use Rattle.std.specs.declared.collections.binary_heap.BinaryHeap.{BinaryHeap}
 use Rattle.std.proofs.lemmas.Cmp.{nat_list_cmp_total, ranked}
 use Rattle.std.proofs.lemmas.Bool.Decides.{nat_tests}
-use Rattle.std.proofs.lemmas.Bool.{and_parts, leb-true, ltb-true}
+use Rattle.std.proofs.lemmas.Bool.{and_parts, both_ways, leb-true, lt-leb, ltb-true}
 use Rattle.std.proofs.lemmas.Map.Lookups.{exact_bytes}
-use Rattle.std.proofs.lemmas.List.{get_or-map}
+use Rattle.std.proofs.lemmas.List.{get_or-map, length-map}
 use Rattle.std.proofs.lemmas.List.Sorted.{IsPermutation-map, length_permutation}
 use Rattle.vs_defs.specs.Bytes.{sort_by, place_by, name_cmp}
-use Rattle.vs_rank.proofs.Sorted.{IsOrder, Ascends, order_of, not_both}
+use Rattle.vs_rank.proofs.Sorted.{IsOrder, Ascends, order_of}
+use Rattle.vs_laws.proofs.Tests.{second_equal}
 use Rattle.vs_rank.proofs.Sorted as sorted
 use Rattle.vs_truth.specs.Nears.{Near, near_cmp, near_of, candidate_cmp, First, is_beyond}
 use Rattle.vs_truth.specs.declared.candidate.Candidate.{Candidate}
@@ -25,11 +26,6 @@ first_equal : (a b : Ordering) → ordering_then a b ≡ Equal → a ≡ Equal
 first_equal Less b h = h
 first_equal Equal b h = refl
 first_equal Greater b h = h
-
-second_equal : (a b : Ordering) → ordering_then a b ≡ Equal → b ≡ Equal
-second_equal Less b h = absurd (not_both (is_lt Less) refl (ap is_lt h))
-second_equal Equal b h = h
-second_equal Greater b h = absurd (not_both (is_gt Greater) refl (ap is_gt h))
 
 near_total : IsTotalOrder near_cmp
 near_total = then_total (on_total (λ (x : Near). x.dist) nat_cmp_total) (then_total (on_total (λ (x : Near). x.name) nat_list_cmp_total) (on_total (λ (x : Near). x.place) nat_cmp_total))
@@ -50,10 +46,6 @@ near_order = order_of near_cmp near_total near_exact
 abbrev pub seen : List Candidate → List Near
 seen xs = map near_of xs
 
-pub long_map : {X Y : Type 0} (f : X → Y) (xs : List X) → length (map f xs) ≡ length xs
-long_map f [] = refl
-long_map f (x ∷ xs) = omega (arith, long_map f xs)
-
 upper : (x : Candidate) (xs : List Candidate) → IsUpperBound candidate_cmp x xs → IsUpperBound near_cmp (near_of x) (seen xs)
 upper x [] h = tt
 upper x (y ∷ ys) h = (h.0, upper x ys h.1)
@@ -62,7 +54,7 @@ pub sorted-map : {X Y : Type 0} (below : Y → Y → Bool) (f : X → Y) (xs : L
 sorted-map below f [] up = λ k d low high. absurd (omega arith)
 sorted-map {X} below f (x ∷ xs) up = λ k d low high.
     let l : List X = x ∷ xs in
-    let within : k + 1 < length l = omega (arith, long_map f xs) in
+    let within : k + 1 < length l = omega (arith, length-map xs f) in
     let here = get_or-map f l k x d (omega arith) in
     let next = get_or-map f l (k + 1) x d within in
     subst (λ y. below y (get_or (map f l) k d) ≡ false) (sym next)
@@ -77,7 +69,7 @@ abbrev pub kept : BinaryHeap Candidate Global → List Near
 kept h = sort_by near_cmp (seen (heap_items h))
 
 pub kept_long : (h : BinaryHeap Candidate Global) → length (kept h) ≡ heap_len h
-kept_long h = length_permutation (seen (heap_items h)) (kept h) (sorted.sort_permutes near_cmp (seen (heap_items h))) ∙ long_map near_of (heap_items h) ∙ sym (heap_long h)
+kept_long h = length_permutation (seen (heap_items h)) (kept h) (sorted.sort_permutes near_cmp (seen (heap_items h))) ∙ length-map (heap_items h) near_of ∙ sym (heap_long h)
 
 pub kept_more : (h k : BinaryHeap Candidate Global) (x : Candidate) → IsPermutation (x ∷ heap_items h) (heap_items k) → kept k ≡ place_by near_cmp (near_of x) (kept h)
 kept_more h k x same = sym (sorted.sort_permuted near_cmp near_order (seen (x ∷ heap_items h)) (seen (heap_items k)) (IsPermutation-map near_of (x ∷ heap_items h) (heap_items k) same))
@@ -86,17 +78,17 @@ pub last_is_top : (h : BinaryHeap Candidate Global) (x : Candidate) → 0 < heap
     → slice_get (kept h) (length (kept h) - 1) ≡ Some (near_of x)
 last_is_top h x pos e up =
     let some : 0 < length (heap_items h) = omega (arith, heap_long h) in
-    sorted.top_is_last near_cmp near_order (near_of x) (seen (heap_items h)) (omega (arith, long_map near_of (heap_items h))) (ap near_of e ∙ sym (get_or-map near_of (heap_items h) 0 x (near_of x) some)) (upper x (heap_items h) up)
+    sorted.top_is_last near_cmp near_order (near_of x) (seen (heap_items h)) (omega (arith, length-map (heap_items h) near_of)) (ap near_of e ∙ sym (get_or-map near_of (heap_items h) 0 x (near_of x) some)) (upper x (heap_items h) up)
 
 pub popped : (h k : BinaryHeap Candidate Global) (r : Option Candidate) → IsHeap candidate_cmp (heap_items h) → IsSome r
     → IfSome r (λ x. IsPermutation (heap_items h) (x ∷ heap_items k)) → IfSome r (λ x. PopsGreatest candidate_cmp (heap_items h) x (heap_items k))
     → kept k ≡ take (length (kept h) - 1) (kept h)
-popped h k None heap some same greatest = absurd (not_both false some refl)
+popped h k None heap some same greatest = absurd (both_ways false refl some)
 popped h k (Some x) heap some same greatest =
     sorted.without_top near_cmp near_order (near_of x) (seen (heap_items h)) (seen (heap_items k)) (IsPermutation-map near_of (heap_items h) (x ∷ heap_items k) same) (upper x (heap_items h) (greatest heap).1)
 
 pub some_kept : (nears : List Near) (x : Near) → option_map_or (λ last. is_gt (near_cmp last x)) (slice_get nears (length nears - 1)) false ≡ true → 0 < length nears
-some_kept [] x h = absurd (not_both false h refl)
+some_kept [] x h = absurd (both_ways false refl h)
 some_kept (y ∷ ys) x h = omega arith
 
 pub sorted_out : (h : BinaryHeap Candidate Global) (xs : List Candidate) → IsPermutation (heap_items h) xs → IsSortedBy (λ x y. is_lt (candidate_cmp x y)) xs → seen xs ≡ kept h
@@ -132,9 +124,6 @@ beyond_kept h first x v is seen_as few beyond =
 le_is : (m n : ℕ) → m ≤ n → nat_le m n ≡ true
 le_is m n h = grind (arith, nat_tests)
 
-pub gt_is : (m n : ℕ) → n < m → nat_le m n ≡ false
-gt_is m n h = grind (arith, nat_tests)
-
 pub beyond_full : (h : BinaryHeap Candidate Global) (dist : ℕ) (last : Near) (most : ℕ) → most ≤ heap_len h → slice_get (kept h) (length (kept h) - 1) ≡ Some last
     → is_beyond (record { most = most; nears = kept h }) dist ≡ nat_lt last.dist dist
 beyond_full h dist last most full worst =
@@ -143,5 +132,5 @@ beyond_full h dist last most full worst =
 
 pub beyond_room : (h : BinaryHeap Candidate Global) (dist most : ℕ) → heap_len h < most → is_beyond (record { most = most; nears = kept h }) dist ≡ false
 beyond_room h dist most room =
-    let few : nat_le most (length (kept h)) ≡ false = gt_is most (length (kept h)) (omega (arith, room, kept_long h)) in
+    let few : nat_le most (length (kept h)) ≡ false = lt-leb most (length (kept h)) (omega (arith, room, kept_long h)) in
     ap (λ b. b && option_map_or (λ (x : Near). nat_lt x.dist dist) (slice_get (kept h) (length (kept h) - 1)) false) few

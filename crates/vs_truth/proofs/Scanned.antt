@@ -2,7 +2,7 @@
 use Rattle.std.proofs.Common.{◌≡◌, ℕ, ◌+◌, ◌/◌, ◌<◌, Bool, true, false, cond, List, [], ◌∷◌, ◌++◌, length, get_or, take, refl, sym, ap, ◌∙◌, subst, arith, map, append-nil}
 use Rattle.std.specs.Prelude.{slice_get, IsSomeAnd}
 use Rattle.std.proofs.lemmas.Option.{slice_get-get_or}
-use Rattle.std.proofs.lemmas.List.{take_more, length-take-le}
+use Rattle.std.proofs.lemmas.List.{map_push, take_more, length-take-le}
 use Rattle.vs_defs.specs.Vector.{Vector, ham}
 use Rattle.vs_defs.specs.Words.{FitsDimension, bits_of_words, words_ham}
 use Rattle.vs_defs.specs.Bytes.{sort_by, place_by}
@@ -38,10 +38,6 @@ placed_more p xs i d h =
 -- what is said of the member at a place
 pub said_at : (P : Member → Type 0) (xs : List Member) (i : ℕ) (d : Member) → i < length xs → IsSomeAnd (slice_get xs i) P → P (get_or xs i d)
 said_at P xs i d h s = subst (λ o. IsSomeAnd o P) (slice_get-get_or xs i d h) s
-
-map_push : {A B : Type 0} (f : A → B) (xs : List A) (x : A) → map f (xs ++ x ∷ []) ≡ map f xs ++ f x ∷ []
-map_push f [] x = refl
-map_push f (y ∷ ys) x = ap (λ t. f y ∷ t) (map_push f ys x)
 
 -- the first of what was found before a place
 abbrev pub found : (Attribute → Bool) → Vector → ℕ → List Member → List Near

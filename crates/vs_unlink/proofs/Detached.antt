@@ -4,6 +4,7 @@ use Rattle.std.proofs.Math.Path.{fun_ext}
 use Rattle.std.specs.Prelude.{nat_eq, fold}
 use Rattle.std.specs.List.{list_any, IsDistinct}
 use Rattle.std.proofs.lemmas.Bool.{eqb-true, eq-eqb, ne_eqb, both_ways, and_parts, or_parts, cond-false}
+use Rattle.std.proofs.Math.Bool.{and-false}
 use Rattle.vs_graph.specs.Table.{Table, is_in, put, without, leave}
 use Rattle.vs_graph.specs.GoodTable.{IsGoodTable}
 use Rattle.vs_graph.proofs.Lists.{has_without, without_le, without_lt, distinct_without}
@@ -46,10 +47,7 @@ detached_is layers layer most t x good =
     (left_is x (t x) t id ∙ none_left t x id (list_any (nat_eq id) (t x)) (sym (good.back x id))))
 
 in_by : (t : Table) (x a b : ℕ) (c : Bool) → eqb a x ≡ c → list_any (nat_eq b) (cond c [] (without x (t a))) ≡ (is_in t a b && (not c && not (eqb b x)))
-in_by t x a b true e = sym (nothing (is_in t a b)) where
-  nothing : (q : Bool) → (q && false) ≡ false
-  nothing true = refl
-  nothing false = refl
+in_by t x a b true e = sym (and-false (is_in t a b))
 in_by t x a b false e = has_without x b (t a)
 
 pub is_in_detached : (t : Table) (x a b : ℕ) → is_in (detached t x) a b ≡ (is_in t a b && (not (eqb a x) && not (eqb b x)))

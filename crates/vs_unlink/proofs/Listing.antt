@@ -12,7 +12,7 @@ use Rattle.vs_graph.specs.Good.{layers_at}
 use Rattle.vs_graph.proofs.Relinking.{links_there}
 use Rattle.vs_graph.proofs.Goods.{table_from}
 use Rattle.vs_graph.proofs.NodeLaws.{live_from_layers}
-use Rattle.vs_graph.proofs.CommonLaws.{in_at}
+use Rattle.vs_laws.proofs.Lists.{in_at}
 use Rattle.std.proofs.lemmas.Bool.{both_ways}
 use Rattle.vs_unlink.specs.declared.Orphan.{Orphan}
 use Rattle.vs_unlink.specs.Orphans.{AreAlone, at_layer, Lists, next}

@@ -25,7 +25,7 @@ use Rattle.vs_graph.proofs.Goods.{table_from}
 use Rattle.vs_graph.proofs.Sorts.{In, in_filter, from_filter, filter_of_map, filter_same, in_from_test, test_from_in, map_same_in}
 use Rattle.vs_graph.proofs.Standing.{degree, member_there}
 use Rattle.vs_graph.proofs.Lists.{distinct_filter}
-use Rattle.vs_graph.proofs.CommonLaws.{no_layers}
+use Rattle.vs_defs.proofs.LayerLaws.{no_layers}
 use Rattle.vs_rank.proofs.Sorted.{sort_is, ascends_from_sort}
 use Rattle.vs_unlink.specs.declared.Orphan.{Orphan}
 use Rattle.vs_unlink.specs.Orphans.{AreAlone, at_layer, Lists, none, next, named_orphan}

@@ -18,7 +18,8 @@ use Rattle.std.proofs.lemmas.Map.Made.{AllPairs-from_IsDistinct}
 use Rattle.vs_graph.specs.Bodies.{Bodies, name_at, gap}
 use Rattle.vs_graph.specs.Table.{Table}
 use Rattle.vs_graph.proofs.Sorts.{In, from_map, in_from_test, less_or_same}
-use Rattle.vs_graph.proofs.CommonLaws.{in_at, nat_eq_flips}
+use Rattle.vs_laws.proofs.Lists.{in_at}
+use Rattle.vs_laws.proofs.Tests.{nat_eq_flips}
 use Rattle.vs_unlink.specs.declared.Pair.{Pair}
 use Rattle.vs_unlink.specs.declared.pairs.Candidate.{Candidate}
 use Rattle.vs_unlink.specs.Candidates.{pair_at, IsCandidate, IsWithin, HasPairsBelow}

@@ -16,7 +16,7 @@ use Rattle.vs_defs.specs.Bytes.{Bytes, name_cmp, place_by, sort_by}
 use Rattle.vs_defs.specs.Beam.{layers_down}
 use Rattle.vs_graph.specs.Table.{without}
 use Rattle.vs_graph.proofs.Lists.{has_without, distinct_without, head_absent}
-use Rattle.vs_graph.proofs.CommonLaws.{no_layers}
+use Rattle.vs_defs.proofs.LayerLaws.{no_layers}
 use Rattle.vs_rank.proofs.Sorted.{IsOrder, order_of, ascends_sorted, filter_placed}
 use Rattle.vs_unlink.proofs.Detached.{absent}
 

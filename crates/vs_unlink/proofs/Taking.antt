@@ -16,7 +16,7 @@ use Rattle.vs_graph.specs.Relinks.{Relinks}
 use Rattle.vs_graph.proofs.Relinking.{relinks_then, leaves_then, adds_then, same_bodies, stands_now}
 use Rattle.vs_graph.proofs.Goods.{table_from, alike_from, good_after}
 use Rattle.vs_graph.proofs.NodeLaws.{live_from_layers}
-use Rattle.vs_graph.proofs.CommonLaws.{in_at}
+use Rattle.vs_laws.proofs.Lists.{in_at}
 use Rattle.vs_graph.proofs.Standing.{differ_by}
 use Rattle.vs_unlink.specs.declared.Pair.{Pair}
 use Rattle.vs_unlink.specs.Pairs.{detached, paired, Differ, IsPairing}

@@ -5,7 +5,8 @@ use Rattle.vs_outside.proofs.KnownBytes.{Adds-trans, Adds-none, in_front-none}
 use Rattle.vs_stream.specs.Place.{HasFault}
 use Rattle.vs_resp.specs.declared.FeedError.TheVariants.{NoMemory as FeedNoMemory, Protocol as FeedProtocol}
 use Rattle.vs_resp.specs.Stands.{bytes_taken, failure, fault_of, FeedMeans}
-use Rattle.vs_connection.proofs.Ends.{ok_none, err_is, none_kept, err_other, at_start, more_answered, ends_read, ends_spent, ends_memory, ends_whole, ends_cut, ends_fault, loses_line, length_take_le}
+use Rattle.vs_connection.proofs.Ends.{ok_none, err_is, none_kept, err_other, at_start, more_answered, ends_read, ends_spent, ends_memory, ends_whole, ends_cut, ends_fault, loses_line}
+use Rattle.std.proofs.lemmas.List.{length-take-le}
 use Rattle.vs_connection.proofs.serve.serve_with.Goals as goal
 
 pub loop-taken-init : goal.loop-taken-init
@@ -73,7 +74,7 @@ loop-taken-preserved g c =
     let few : c.in-Bytes.n ≤ length c.read.new.into = c.in-Bytes.ensures.took.1 in
     let kept : length c.read.new.into ≡ length c.loop-taken.buffer = c.read.auto.into in
     let test : c.loop-taken.taken < 4611686018427387904 = c.loop-taken-test.true in
-    let count : length (take c.in-Bytes.n c.read.new.into) ≡ c.in-Bytes.n = length_take_le c.in-Bytes.n c.read.new.into few in
+    let count : length (take c.in-Bytes.n c.read.new.into) ≡ c.in-Bytes.n = length-take-le c.in-Bytes.n c.read.new.into few in
     let small : length c.loop-taken.buffer < 65536 = c.loop-taken.invariant.few in
     let fed_is : bytes_taken c.feed-fed.new.self ≤ bytes_taken c.loop-taken.decoder + length (take c.in-Bytes.n c.read.new.into) = c.feed-fed.ensures.taken in
     let same_fed : bytes_taken c.answer_all.new.decoder ≡ bytes_taken c.feed-fed.new.self = c.answer_all.ensures.taken in

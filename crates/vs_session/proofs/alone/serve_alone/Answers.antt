@@ -1,4 +1,4 @@
-use Rattle.std.proofs.Common.{[], ◌∙◌, ap, sym, refl}
+use Rattle.std.proofs.Common.{◌∙◌, ap, sym, refl}
 use Rattle.vs_defs.specs.Store.{empty_store}
 use Rattle.vs_session_defs.specs.Words.{generator}
 use Rattle.vs_session.specs.Alone.{fresh}

@@ -6,7 +6,7 @@ use Rattle.std.proofs.lemmas.Map.Keys.{IsDistinct-IsPermutation}
 use Rattle.std.proofs.lemmas.Result.{IfOk-weaker}
 use Rattle.vs_graph.specs.Edits.{overwritten}
 use Rattle.vs_graph.specs.Good.{links_at, body_at}
-use Rattle.vs_graph.proofs.CommonLaws.{nat_eq_flips}
+use Rattle.vs_laws.proofs.Tests.{nat_eq_flips}
 use Rattle.vs_unlink.specs.Candidates.{pair_at, IsCandidate, IsWithin, HasPairsBelow}
 use Rattle.vs_unlink.specs.Pairs.{matched, IsPairing}
 use Rattle.vs_unlink.proofs.Ranked.{within_from, pairing_from}

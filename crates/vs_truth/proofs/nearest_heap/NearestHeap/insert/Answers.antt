@@ -1,6 +1,6 @@
 use Rattle.std.proofs.Common.{false, refl, length, arith, ap, ◌∙◌}
 use Rattle.vs_defs.specs.Bytes.{place_by}
-use Rattle.vs_rank.proofs.Sorted.{not_both}
+use Rattle.std.proofs.lemmas.Bool.{both_ways}
 use Rattle.vs_truth.specs.Nears.{First, near_of, near_cmp}
 use Rattle.vs_truth.proofs.Order.{kept_long, kept_more}
 use Rattle.vs_truth.proofs.nearest_heap.NearestHeap.insert.Goals as goal
@@ -9,7 +9,7 @@ pub unreachable-requires : goal.unreachable-requires
 unreachable-requires c =
     let long = ap (λ (l : First). length l.nears) c.self.view_is in
     let most = ap (λ (l : First). l.most) c.self.view_is in
-    not_both false (c.in-Err.ensures.succeeds (omega (arith, long, most, kept_long c.self.inside.heap, c.self.invariant.1, c.self.invariant.2))) refl
+    both_ways false refl (c.in-Err.ensures.succeeds (omega (arith, long, most, kept_long c.self.inside.heap, c.self.invariant.1, c.self.invariant.2)))
 
 pub invariant_of-self : goal.invariant_of-self
 invariant_of-self c =

@@ -1,8 +1,8 @@
 use Rattle.std.proofs.Common.{◌≡◌, ◌≤◌, false, refl, length, sym, ap, ◌∙◌, arith}
 use Rattle.std.specs.Prelude.{nat_le}
-use Rattle.std.proofs.lemmas.Bool.{false≢true}
+use Rattle.std.proofs.lemmas.Bool.{false≢true, lt-leb}
 use Rattle.vs_truth.specs.Nears.{First, near_of, is_beyond}
-use Rattle.vs_truth.proofs.Order.{gt_is, last_is_top, kept_long, beyond_full, beyond_room, beyond_kept}
+use Rattle.vs_truth.proofs.Order.{last_is_top, kept_long, beyond_full, beyond_room, beyond_kept}
 use Rattle.vs_truth.proofs.nearest_heap.NearestHeap.is_beyond.Goals as goal
 
 pub returns-then-len-self : goal.returns-then-len-self
@@ -21,7 +21,7 @@ returns-then-len-self c =
 
 pub returns-else-len-self : goal.returns-else-len-self
 returns-else-len-self c =
-    let room : nat_le c.self.inside.most c.len.result ≡ false = gt_is c.self.inside.most c.len.result c.if-len-self.false in
+    let room : nat_le c.self.inside.most c.len.result ≡ false = lt-leb c.self.inside.most c.len.result c.if-len-self.false in
     record {
       value = room ∙ sym (beyond_room c.self.inside.heap c.args.dist c.self.inside.most (omega (arith, c.len.ensures, c.if-len-self.false))) ∙ ap (λ (l : First). is_beyond l c.args.dist) c.self.view_is;
       kept = λ is. absurd (false≢true (sym room ∙ is));
