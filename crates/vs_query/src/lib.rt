@@ -8,6 +8,9 @@ mod links;
 mod member;
 mod random;
 mod search;
+#[cfg(test)]
+mod tests;
+mod vector;
 
 pub use info::info;
 pub use links::links;
