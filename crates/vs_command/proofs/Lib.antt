@@ -2,4 +2,4 @@ pub mod Shuffles
 pub mod Words
 pub mod Steps
 pub mod OptionSteps
-pub mod Stages
+pub mod Commands

@@ -57,7 +57,7 @@ const PLAIN: [(&str, &str); 72] = [
     ("VDIM ~0", "BadKey { len: 0 }"),
     ("VDIM ~65536", "BadKey { len: 65536 }"),
     ("VINFO", "WrongArity"),
-    ("VINFO k", "NotBuilt"),
+    ("VINFO k", "Vinfo k"),
     ("VINFO k x", "WrongArity"),
     ("VINFO ~0", "BadKey { len: 0 }"),
     ("VINFO ~1025", "BadKey { len: 1025 }"),
@@ -119,9 +119,9 @@ const MEMBERS: [(&str, &str); 49] = [
     ("VEMB k ~0 RAW", "BadName { len: 0 }"),
     ("VEMB k ~1025 x", "BadName { len: 1025 }"),
     ("VLINKS k", "WrongArity"),
-    ("VLINKS k n", "NotBuilt"),
-    ("VLINKS k n WITHSCORES", "NotBuilt"),
-    ("VLINKS k n withScores", "NotBuilt"),
+    ("VLINKS k n", "Vlinks k n"),
+    ("VLINKS k n WITHSCORES", "Vlinks k n scores"),
+    ("VLINKS k n withScores", "Vlinks k n scores"),
     ("VLINKS k n RAW", "UnknownOption { at: 3 }"),
     ("VLINKS k n ~0", "UnknownOption { at: 3 }"),
     ("VLINKS k n WITHSCORES x", "WrongArity"),
@@ -220,7 +220,10 @@ const VECTORS: [(&str, &str); 80] = [
     ("VSIM", "WrongArity"),
     ("VSIM k", "WrongArity"),
     ("VSIM k ELE", "WrongArity"),
-    ("VSIM k ELE n", "NotBuilt"),
+    (
+        "VSIM k ELE n",
+        "Vsim k ele n count 10 ef 100 effort 0",
+    ),
     (
         "VSIM k ELE n TRUTH",
         "Vsim k ele n count 10 ef 100 effort 0 truth",
@@ -233,7 +236,10 @@ const VECTORS: [(&str, &str); 80] = [
         "VSIM k VALUES 2 1 -1 TRUTH",
         "Vsim k 10 count 10 ef 100 effort 0 truth",
     ),
-    ("VSIM k VALUES 1 1", "NotBuilt"),
+    (
+        "VSIM k VALUES 1 1",
+        "Vsim k 1 count 10 ef 100 effort 0",
+    ),
     (
         "VSIM k VALUES 4096 1^4096 TRUTH",
         "Vsim k 4096 bits count 10 ef 100 effort 0 truth",
@@ -363,8 +369,14 @@ const SEARCHES: [(&str, &str); 66] = [
         "VSIM k ELE n NOTHREAD WITHATTRIBS WITHSCORES TRUTH TRUTH",
         "Vsim k ele n count 10 ef 100 effort 0 scores attrs truth nothread",
     ),
-    ("VSIM k ELE n WITHSCORES", "NotBuilt"),
-    ("VSIM k ELE n NOTHREAD COUNT 5", "NotBuilt"),
+    (
+        "VSIM k ELE n WITHSCORES",
+        "Vsim k ele n count 10 ef 100 effort 0 scores",
+    ),
+    (
+        "VSIM k ELE n NOTHREAD COUNT 5",
+        "Vsim k ele n count 5 ef 100 effort 0 nothread",
+    ),
     (
         "VSIM k ELE n COUNT 1 TRUTH",
         "Vsim k ele n count 1 ef 100 effort 0 truth",
@@ -461,7 +473,10 @@ const SEARCHES: [(&str, &str); 66] = [
         "BadFilterEf { at: 7 }",
     ),
     ("VSIM k ELE n FILTER", "MissingValue { at: 4 }"),
-    ("VSIM k ELE n FILTER .a", "NotBuilt"),
+    (
+        "VSIM k ELE n FILTER .a",
+        "Vsim k ele n count 10 ef 100 effort 1000 filter",
+    ),
     (
         "VSIM k ELE n FILTER .a COUNT 7 TRUTH",
         "Vsim k ele n count 7 ef 100 effort 700 filter truth",
@@ -617,7 +632,11 @@ fn show_request(alloc: Global, request: &Request) -> Result<String, AllocError> 
             format!(in alloc; "Vdim {}", key.as_str())
         }
         Request::Vemb { key, name } => show_member(alloc, "Vemb", key, name),
-        Request::Vlinks { key, name, .. } => show_member(alloc, "Vlinks", key, name),
+        Request::Vlinks { key, name, scores } => {
+            let member = show_member(alloc, "Vlinks", key, name)?;
+            let scores = if *scores { " scores" } else { "" };
+            format!(in alloc; "{}{scores}", member.as_str())
+        }
         Request::Vinfo(key) => {
             let key = show_text(alloc, key)?;
             format!(in alloc; "Vinfo {}", key.as_str())

@@ -1,24 +1,14 @@
--- What is read of a known command's words, in this stage.
-use Rattle.std.proofs.Common.{◌≡◌, List, Some, Ok, Err, Bool, true, false, length, drop, ◌+◌, refl, ap, ◌∙◌}
+-- What is read of a known command's words.
+use Rattle.std.proofs.Common.{◌≡◌, List, Some, Ok, Err, Bool, true, length, drop, ◌+◌, refl, ap, ◌∙◌}
 use Rattle.vs_defs.specs.Bytes.{Bytes}
 use Rattle.vs_defs.specs.Request as model
 use Rattle.vs_defs.specs.Read.{Command, named, commands, word, fits_arity, read_command, read, read_known, read_key, read_add_form, read_vector, read_name, read_options, find_add_option, no_add_options, read_vadd}
-use Rattle.vs_defs.specs.Stages.{if_built, is_plain, plain_read}
 
 fitting : (words : List Bytes) (c : Command) → fits_arity c (length words) ≡ true → read_known (Some c) words ≡ read_command c words
 fitting words c fits = rw (fits, read_known) refl
 
-known : (words : List Bytes) (c : Command) → named (word words 0) commands ≡ Some c → fits_arity c (length words) ≡ true → read words ≡ read_command c words
+pub known : (words : List Bytes) (c : Command) → named (word words 0) commands ≡ Some c → fits_arity c (length words) ≡ true → read words ≡ read_command c words
 known words c e fits = ap (λ o. read_known o words) e ∙ fitting words c fits
-
-pub plain_of : (words : List Bytes) (c : Command) → named (word words 0) commands ≡ Some c → fits_arity c (length words) ≡ true → plain_read words ≡ if_built is_plain (read_command c words)
-plain_of words c e fits = ap (if_built is_plain) (known words c e fits)
-
-pub served : (q : model.Request) → is_plain q ≡ true → if_built is_plain (Ok q) ≡ Ok q
-served q e = rw e refl
-
-pub not_served : (q : model.Request) → is_plain q ≡ false → if_built is_plain (Ok q) ≡ Err model.NotBuilt
-not_served q e = rw e refl
 
 pub addition_refused : (words : List Bytes) (key name : Bytes) (bits : List Bool) (c : model.Refusal) → read_key (word words 1) ≡ Ok key → read_add_form (word words 2) ≡ Ok tt → read_vector 1 words ≡ Ok bits → read_name (word words (4 + length bits)) ≡ Ok name
     → read_options find_add_option no_add_options (5 + length bits) (drop (5 + length bits) words) ≡ Err c → read_vadd words ≡ Err c
