@@ -220,10 +220,7 @@ const VECTORS: [(&str, &str); 80] = [
     ("VSIM", "WrongArity"),
     ("VSIM k", "WrongArity"),
     ("VSIM k ELE", "WrongArity"),
-    (
-        "VSIM k ELE n",
-        "Vsim k ele n count 10 ef 100 effort 0",
-    ),
+    ("VSIM k ELE n", "Vsim k ele n count 10 ef 100 effort 0"),
     (
         "VSIM k ELE n TRUTH",
         "Vsim k ele n count 10 ef 100 effort 0 truth",
@@ -236,10 +233,7 @@ const VECTORS: [(&str, &str); 80] = [
         "VSIM k VALUES 2 1 -1 TRUTH",
         "Vsim k 10 count 10 ef 100 effort 0 truth",
     ),
-    (
-        "VSIM k VALUES 1 1",
-        "Vsim k 1 count 10 ef 100 effort 0",
-    ),
+    ("VSIM k VALUES 1 1", "Vsim k 1 count 10 ef 100 effort 0"),
     (
         "VSIM k VALUES 4096 1^4096 TRUTH",
         "Vsim k 4096 bits count 10 ef 100 effort 0 truth",
