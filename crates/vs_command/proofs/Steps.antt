@@ -1,5 +1,5 @@
 -- A reading goes on with what is left: what a loop over words keeps true.
-use Rattle.std.proofs.Common.{◌≡◌, ℕ, ◌+◌, ◌<◌, List, [], ◌∷◌, ◌++◌, length, drop, map, Option, Some, None, Bool, true, false, cond, option_map, Ok, Err, refl, sym, ap, ◌∙◌, append_assoc, IfSome, arith, Result, get_or}
+use Rattle.std.proofs.Common.{◌≡◌, ℕ, ◌+◌, ◌<◌, List, [], ◌∷◌, ◌++◌, length, drop, Option, Some, None, Bool, true, false, cond, option_map, Ok, Err, refl, sym, ap, ◌∙◌, append_assoc, IfSome, arith, Result, get_or}
 use Rattle.std.specs.List.{prefix_len}
 use Rattle.std.specs.Prelude.{option_and_then}
 use Rattle.std.specs.Result.{IsErrAnd}

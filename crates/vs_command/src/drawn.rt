@@ -85,7 +85,8 @@ fn picks_anew(alloc: Global, members: u32, words: &[u32]) -> Result<Vec<u32>, No
 }
 
 /// The places of the members that a random pick with a count answers, in the order of the answer: with a count of 0 or
-/// more, as many different ones as there are, at most the count; with a negative one, one for each word, anew.
+/// more, as many different ones as there are, at most the count; with a negative one, one for each word, anew. The memory
+/// it takes grows with the words, not with the members.
 pub fn picks(alloc: Global, count: i32, members: u32, words: &[u32]) -> Result<List<u32>, NoMemory>
     requires { length words.now ≡ unsigned_abs count }
     ensures picks { (names : Items Bytes) → length names ≡ members → IfOk result (λ places. map (λ i. name_at i names) places ≡ picks_of count names words.now) }
