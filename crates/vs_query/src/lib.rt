@@ -2,18 +2,18 @@
 //! query goes through the members but a search with TRUTH.
 #![tactic(auto)]
 
+mod facts;
 mod hits;
-mod info;
-mod links;
+mod layers;
 mod member;
-mod random;
+mod picking;
 mod search;
 #[cfg(test)]
 mod tests;
 mod vector;
 
-pub use info::info;
-pub use links::links;
+pub use facts::info;
+pub use layers::links;
 pub use member::{attribute, embedding};
-pub use random::random;
+pub use picking::random;
 pub use search::find;

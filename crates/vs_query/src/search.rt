@@ -95,8 +95,8 @@ fn find_vector<N: Nodes, L: Ledger>(
     ensures scores { IfOk result HasScores }
 {
     let dim = snap.dim();
-    let hits = hits_of(alloc, snap, search, query, slot, reads)?;
-    let hits = named(alloc, snap, hits.as_slice(), search.attrs)?;
+    let found = hits_of(alloc, snap, search, query, slot, reads)?;
+    let hits = named(alloc, snap, found.as_slice(), search.attrs)?;
     Ok(Answer::Hits {
         dim,
         scores: search.scores,

@@ -18,6 +18,7 @@ pub(crate) fn bits_at<N: Nodes, L: Ledger>(
 ) -> Result<Bits, NoMemory>
     requires { place < length snap.now.contents.members }
     ensures bits { IfOk result (λ bits. IsSomeAnd (slice_get snap.now.contents.members place) (λ x. bits ≡ x.bits)) }
+    ensures dim { IfOk result (λ bits. length bits ≡ snap.now.contents.dim) }
     ensures told { reads.new ≤ reads.old + 1 }
 {
     let dim = snap.dim();
