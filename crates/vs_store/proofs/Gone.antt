@@ -109,6 +109,9 @@ module _ {X : Type 0} (key : Bytes) (x : X) (old new : List (Bytes × X)) (taken
   pub popped_long : length new + 1 ≡ length old
   popped_long = omega (arith, length_permutation old ((key, x) ∷ new) taken)
 
+  pub popped_all : (P : Bytes × X → Type 0) → All P old → All P new
+  popped_all P all = λ k d h. All-permutation P old ((key, x) ∷ new) taken all (suc k) d (omega (arith, h))
+
   pub popped_sum : (f : Bytes × X → ℕ) → sum_by f new + f (key, x) ≡ sum_by f old
   popped_sum f = sum_by_popped f (key, x) old new taken
 

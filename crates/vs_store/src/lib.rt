@@ -15,6 +15,7 @@ mod looking;
 mod querying;
 mod ready;
 mod removing;
+mod room;
 mod sought;
 mod store;
 
