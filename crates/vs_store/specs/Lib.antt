@@ -2,3 +2,4 @@ pub mod Seen
 pub mod Kept
 pub mod Snapshots
 pub mod Drafts
+pub mod Room

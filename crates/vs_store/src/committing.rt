@@ -1,31 +1,79 @@
 //! An addition with CAS in three steps: a draft, which takes the set of its key as it is, the choice of its links, which needs no store, and
 //! the commit, which runs no beam.
-ghost use Rattle.std.specs.Prelude.{◌≡◌, ◌≤◌, ◌+◌, ℕ, Bool, Err, IsTrue, true, None, Some, IfOk, IfErr, IfSome, OnErr, unwrap_or, option_map};
+ghost use Rattle.std.specs.Prelude.{◌≡◌, ◌≤◌, ◌+◌, ℕ, Bool, Err, IsTrue, true, false, None, Some, IfOk, IfErr, IfSome, IsSomeAnd, OnOk, OnErr, unwrap_or, option_map};
 ghost use Rattle.vs_defs.specs.Bounds.{IsAddInBounds};
 ghost use Rattle.vs_defs.specs.Counts.{commit_reads};
 ghost use Rattle.vs_defs.specs.Good.{GoodStore};
 ghost use Rattle.vs_defs.specs.Refuse.{store_refusal};
 ghost use Rattle.vs_defs.specs.Request as request;
 ghost use Rattle.vs_defs.specs.Stale.{stale_by};
-ghost use Rattle.vs_defs.specs.Store.{set_of, plain};
-ghost use Rattle.vs_thread_defs.specs.Core.{IsDraftable};
+ghost use Rattle.vs_defs.specs.Store.{set_of, plain, is_member};
+ghost use Rattle.vs_thread_defs.specs.Core.{IsDraftable, Suits};
 ghost use Rattle.vs_thread_defs.specs.Interleaving.{can_draft_in};
 ghost use Rattle.vs_bits.specs.Requests.{add_of};
 ghost use Rattle.vs_command.specs.Answers.{answer_of};
 ghost use Rattle.vs_command.specs.Refusals.{refusal_of};
 ghost use Rattle.vs_command.specs.Scores.{HasScores};
 ghost use Rattle.vs_store.specs.Drafts.{IsPrepared, MayCommit, CommitsBy};
+ghost use Rattle.vs_store.specs.Room.{HasRoom, misfit};
 
 use crate::{CommitError, Drafting, Ready, Store};
-use std::alloc::AllocError;
 use std::sync::ledger::Ledger;
 use vs_bits::Add;
-use vs_command::{Answer, Refusal};
-use vs_graph::Steps;
+use vs_command::{Answer, Refusal, level_of_word};
+use vs_graph::{InlineBody, Steps};
 use vs_outside::NoMemory;
+use vs_set::{Kept, Set};
 use vs_slot::Slot;
 
+/// Whether a VADD has the dimension of a set, and its M where it names one: the first cause why not.
+fn check_fit(set: &Set<Kept>, add: &Add) -> Result<(), Refusal>
+    ensures suits { OnOk result (Suits set.now.contents (add_of add.now)) }
+    ensures refused { IfErr result (λ e. IsSomeAnd (refusal_of e) (λ cause. misfit (add_of add.now) set.now.contents ≡ Some cause)) }
+{
+    if add.bits.dim() != set.dim() {
+        return Err(Refusal::WrongDimension {
+            given: add.bits.dim(),
+            has: set.dim(),
+        });
+    }
+    match add.m {
+        Some(m) if m != set.m() => Err(Refusal::WrongM {
+            given: m,
+            has: set.m(),
+        }),
+        _ => Ok(()),
+    }
+}
+
 impl Store {
+    /// Whether a new member may be added to the set of its key: the first cause why not.
+    fn check_new(&self, set: &Set<Kept>, add: &Add) -> Result<(), Refusal>
+        requires at { set_of add.now.key self.now ≡ Some set.now }
+        requires new { is_member add.now.name set.now.contents.members ≡ false }
+        ensures unrefused { OnOk result (store_refusal (plain self.now) (request.Vadd (add_of add.now)) ≡ None) }
+        ensures suits { OnOk result (Suits set.now.contents (add_of add.now)) }
+        ensures room { OnOk result (HasRoom self.now set.now) }
+        ensures refused { IfErr result (λ e. IsSomeAnd (refusal_of e) (λ cause. store_refusal (plain self.now) (request.Vadd (add_of add.now)) ≡ Some cause)) }
+    {
+        check_fit(set, add)?;
+        let count = set.count();
+        if count >= self.limits.set {
+            return Err(Refusal::FullSet { members: count });
+        }
+        if self.members >= self.limits.all {
+            return Err(Refusal::FullAll {
+                members: self.members,
+            });
+        }
+        if self.changes >= self.limits.changes {
+            return Err(Refusal::ChangeLimit {
+                changes: self.changes,
+            });
+        }
+        Ok(())
+    }
+
     /// Whether the key is there and the name is no member. It takes no memory.
     pub fn can_draft(&self, add: &Add) -> bool
         ensures { result ≡ can_draft_in (add_of add.now) (set_of add.now.key self.now) }
@@ -63,7 +111,17 @@ impl Store {
         ensures unrefused { IfOk result (λ d. store_refusal (plain self.now) (request.Vadd (add_of add)) ≡ None) }
         ensures refused { IfErr result (λ e. IfSome (refusal_of e) (λ cause. store_refusal (plain self.now) (request.Vadd (add_of add)) ≡ Some cause)) }
     {
-        Err(Refusal::NoMemory)
+        let Some(set) = self.set_at(add.key.as_slice()) else {
+            unreachable!()
+        };
+        self.check_new(set, &add)?;
+        let snap = set.snapshot()?;
+        Ok(Drafting {
+            alloc: self.alloc,
+            add,
+            word,
+            set: snap,
+        })
     }
 
     /// Chooses whom a drafted addition's member is to be linked to, in the set at the draft.
@@ -74,7 +132,15 @@ impl Store {
     ) -> Result<Ready, NoMemory>
         ensures { IfOk result (λ ready. IsPrepared drafting ready) }
     {
-        Err(AllocError)
+        let Drafting {
+            alloc,
+            add,
+            word,
+            set,
+        } = drafting;
+        let body = InlineBody::new(alloc, add.name.as_slice(), add.bits.words())?;
+        let draft = set.prepare(body, level_of_word(word), add.ef, slot, reads)?;
+        Ok(Ready { add, word, draft })
     }
 
     /// What a commit would report where it is stale: the cut of the key's set, 0 where the key is gone, and whether the name is a member.
@@ -116,6 +182,18 @@ impl Store {
         if let Some((cut_now, taken)) = self.stale(&ready) {
             return Err(CommitError::Stale { cut_now, taken });
         }
-        Err(CommitError::NoMemory)
+        if let Err(refusal) = self.check_fresh(&ready.add) {
+            return Err(CommitError::Refused(refusal));
+        }
+        let Ready { add, draft, .. } = ready;
+        let Some(set) = self.sets.get_mut(add.key.as_slice()) else {
+            unreachable!()
+        };
+        if set.try_commit(draft, add.attr, reads).is_err() {
+            return Err(CommitError::NoMemory);
+        }
+        self.members += 1;
+        self.changes += 1;
+        Ok(Answer::Int(1))
     }
 }
