@@ -1,32 +1,27 @@
 -- What a commit needs of the set of its key, and what it makes of the store, for whatever set the addition was drafted in.
-use Rattle.std.proofs.Common.{◌≡◌, ◌≢◌, ℕ, ◌+◌, ◌<◌, ◌≤◌, Bool, true, false, List, [], ◌∷◌, length, map, refl, sym, ap, ◌∙◌, subst, arith, is_some}
-use Rattle.std.specs.Prelude.{Option, Some, None, MatchOption, option_map, slice_get, slice_set, pos, All}
+use Rattle.std.proofs.Common.{◌≡◌, ℕ, ◌+◌, ◌<◌, Bool, true, false, ◌∷◌, [], length, refl, sym, ap, ◌∙◌, subst, is_some}
+use Rattle.std.specs.Prelude.{Option, Some, None, MatchOption}
 use Rattle.std.proofs.lemmas.Bool.{both_ways}
-use Rattle.std.proofs.lemmas.List.{length-map, map-set}
-use Rattle.std.proofs.lemmas.List.Elements.{All-set}
-use Rattle.std.proofs.lemmas.Option.{slice_get-map}
-use Rattle.vs_defs.specs.Bytes.{Bytes, same_name}
 use Rattle.vs_defs.specs.Words.{FitsDimension, bits_of_words}
 use Rattle.vs_defs.specs.Draws.{level_of}
 use Rattle.vs_defs.specs.Good.{Good, GoodStore}
 use Rattle.vs_defs.specs.Insertion.{IsChosen, IsLinkedBy, Inserts}
-use Rattle.vs_defs.specs.PlainStep.{PlainStep, added, added_to, added_member, attr_after, one}
+use Rattle.vs_defs.specs.PlainStep.{added, added_to, added_member, attr_after, one}
 use Rattle.vs_defs.specs.Refuse.{store_refusal}
+use Rattle.vs_defs.specs.Request.{Answer}
 use Rattle.vs_defs.specs.Request as request
-use Rattle.vs_defs.specs.Step.{Step, WiringStep, Adds, AddsTo, OthersKeep}
-use Rattle.vs_defs.specs.Store.{Member, Contents, Set, Store, AnswerAlike, HasKeysOnce, with_member, with_option, with_set, member_of, is_member, lookup_set, set_of, plain}
-use Rattle.vs_defs.proofs.Keys.{plain_at}
+use Rattle.vs_defs.specs.Step.{Adds, AddsTo}
+use Rattle.vs_defs.specs.Store.{Member, Contents, Set, Store, AnswerAlike, with_member, with_set, member_of, is_member, set_of, plain}
 use Rattle.vs_thread_defs.specs.Core as core
-use Rattle.vs_thread_defs.specs.Machine.{StoreChanges}
 use Rattle.vs_bits.specs.declared.add.Add.{Add}
 use Rattle.vs_bits.specs.Requests.{add_of}
 use Rattle.vs_insert.specs.declared.draft.Draft.{Draft}
 use Rattle.vs_insert.specs.Chosen.{AreChosenNames}
 use Rattle.vs_insert.specs.Drafts.{names_down}
 use Rattle.vs_set.specs.Drafted.{MayCommit, Commits, drafted_with}
-use Rattle.vs_store.specs.Drafts.{IsReady, WasReadyIn, MayCommitIn, CommitsBy, ready_seen, chosen_seen}
+use Rattle.vs_store.specs.Drafts.{IsReady, WasReadyIn, MayCommitIn, CommitsBy, ready_seen}
 use Rattle.vs_store.specs.Places.{IsSetAt}
-use Rattle.vs_store.proofs.Edits.{keys-set, found-set, others-set, alike-set, differs}
+use Rattle.vs_store.proofs.Changes.{plain_set, written_at, found-written, wirings-written, alike-written, keys-written, good-written}
 use Rattle.vs_store.proofs.Layers.{chosen_names, names_same}
 
 none_of : {A : Type 0} (o : Option A) → is_some o ≡ false → o ≡ None
@@ -68,53 +63,43 @@ module _ (add : Add) (word : ℕ) (draft : Draft) (ready : IsReady add draft) (x
     }
 
 module _ (s : Store Set) (place : ℕ) (add : Add) (x : Set) (at : IsSetAt add.key place s x) (new : is_member add.name x.contents.members ≡ false) (y : Set) where
+  abbrev n : ℕ
+  n = s.changes + 1
+
   abbrev pub after : Store Set
-  after = record { sets = slice_set s.sets place (add.key, y); changes = s.changes + 1; limits = s.limits }
+  after = written_at s place add.key y n
 
   absent : member_of add.name x.contents.members ≡ None
   absent = none_of (member_of add.name x.contents.members) new
 
-  made : (level number : ℕ) → added (add_of add) level number (set_of add.key (plain s)) ≡ (record x.contents { members = with_member (added_member (add_of add) level None) x.contents.members }, one)
-  made level number =
-      ap (added (add_of add) level number) (plain_at add.key s.sets ∙ ap (option_map (λ z. z.contents)) at.of_key) ∙ ap (added_to (add_of add) level number x.contents) absent
-
-  bare_at : slice_get (plain s).sets place ≡ Some (add.key, x.contents)
-  bare_at = slice_get-map (λ (e : Bytes × Set). (e.0, e.1.contents)) s.sets place ∙ ap (option_map (λ (e : Bytes × Set). (e.0, e.1.contents))) at.at
+  made : (level : ℕ) → added (add_of add) level n (set_of add.key (plain s)) ≡ (record x.contents { members = with_member (added_member (add_of add) level None) x.contents.members }, one)
+  made level = ap (added (add_of add) level n) (plain_set s add.key (Some x) at.of_key) ∙ ap (added_to (add_of add) level n x.contents) absent
 
   pub commits_by : (word : ℕ) (draft : Draft) → IsReady add draft → Commits draft add.attr x y → length add.bits ≡ x.contents.dim → GoodStore s → Good y → 0 < length y.contents.members
-      → HasKeysOnce (plain s).sets → store_refusal (plain s) (request.Vadd (add_of add)) ≡ None → CommitsBy (ready_seen add word draft) s one after
-  commits_by word draft ready commits dim good good_y filled_y once unrefused = λ was ready_in.
+      → store_refusal (plain s) (request.Vadd (add_of add)) ≡ None → CommitsBy (ready_seen add word draft) s one after
+  commits_by word draft ready commits dim good fine some unrefused = λ was ready_in.
       let level = level_of word in
-      let words = word ∷ [] in
       let r = ready_seen add word draft in
-      let made_is = made level (s.changes + 1) in
-      let value : y.contents ≡ (added (add_of add) level (s.changes + 1) (set_of add.key (plain s))).0
-      = contents_are add word draft ready x y commits dim was ready_in ∙ sym (ap (λ (p : Contents × request.Answer). p.0) made_is) in
-      let bare = map-set (λ (e : Bytes × Set). (e.0, e.1.contents)) s.sets place (add.key, y) in
-      let contents : PlainStep (plain s) (request.Vadd (add_of add)) words one (plain after) = record {
-        changes_something = refl;
-        sets = subst (λ l. AnswerAlike l (with_set add.key (added (add_of add) level (s.changes + 1) (set_of add.key (plain s))).0 (plain s).sets)) (sym bare)
-            (subst (λ c. AnswerAlike (slice_set (plain s).sets place (add.key, y.contents)) (with_set add.key c (plain s).sets)) value
-            (alike-set (plain s).sets place add.key x.contents y.contents bare_at once));
-        keys = subst HasKeysOnce (sym bare) (keys-set (plain s).sets place add.key x.contents y.contents bare_at once);
-        answers = sym (ap (λ (p : Contents × request.Answer). p.1) made_is);
-        number = refl;
-        limits = refl;
-      } in
+      let value : y.contents ≡ (added (add_of add) level n (set_of add.key (plain s))).0
+      = contents_are add word draft ready x y commits dim was ready_in ∙ sym (ap (λ (p : Contents × Answer). p.0) (made level)) in
       let drafted = Some (was, core.names_down r.chosen) in
-      let others : OthersKeep add.key s after = λ k other. ap (option_map (λ z. z.wiring)) (others-set s.sets place add.key x y k at.at (differs k add.key other)) in
-      let linked : AddsTo (add_of add) level x None drafted y = inserts add word draft ready x y commits dim was ready_in in
-      let wiring : WiringStep s (request.Vadd (add_of add)) words after drafted = (
-        others,
-        subst (λ o. MatchOption o ⊥ (λ z. Adds (add_of add) level (set_of add.key s) drafted z)) (sym (found-set s.sets place add.key x y at.at good.keys))
-            (subst (λ o. Adds (add_of add) level o drafted y) (sym at.of_key) (subst (λ o. AddsTo (add_of add) level x o drafted y) (sym absent) linked)),
-      ) in
+      let linked : Adds (add_of add) level (set_of add.key s) drafted y
+      = subst (λ o. Adds (add_of add) level o drafted y) (sym at.of_key) (subst (λ o. AddsTo (add_of add) level x o drafted y) (sym absent) (inserts add word draft ready x y commits dim was ready_in)) in
       record {
         unrefused = unrefused;
-        step = record { contents = contents; wiring = wiring };
-        good = record {
-          keys = keys-set s.sets place add.key x y at.at good.keys;
-          sets = All-set (λ e. Good e.1) s.sets place (add.key, y) good_y good.sets;
-          filled = All-set (λ e. 0 < length e.1.contents.members) s.sets place (add.key, y) filled_y good.filled;
+        step = record {
+          contents = record {
+            changes_something = refl;
+            sets = subst (λ c. AnswerAlike (plain after).sets (with_set add.key c (plain s).sets)) value (alike-written s place add.key x at good y n);
+            keys = keys-written s place add.key x at good y n;
+            answers = sym (ap (λ (p : Contents × Answer). p.1) (made level));
+            number = refl;
+            limits = refl;
+          };
+          wiring = (
+            wirings-written s place add.key x at good y n,
+            subst (λ o. MatchOption o ⊥ (λ z. Adds (add_of add) level (set_of add.key s) drafted z)) (sym (found-written s place add.key x at good y n)) linked,
+          );
         };
+        good = good-written s place add.key x at good y n fine some;
       }
