@@ -3,3 +3,7 @@ pub mod Sets
 pub mod Causes
 pub mod Changes
 pub mod Adding
+pub mod Refusing
+pub mod Layers
+pub mod Preparing
+pub mod Committing

@@ -4,4 +4,3 @@ pub mod Places
 pub mod Causes
 pub mod Snapshots
 pub mod Drafts
-pub mod Room

@@ -1,6 +1,6 @@
 //! An addition with CAS in three steps: a draft, which takes the set of its key as it is, the choice of its links, which needs no store, and
 //! the commit, which runs no beam.
-ghost use Rattle.std.specs.Prelude.{◌≡◌, ◌≤◌, ◌+◌, ℕ, Bool, Err, IsTrue, true, false, None, Some, IfOk, IfErr, IfSome, IsSomeAnd, OnOk, OnErr, unwrap_or, option_map};
+ghost use Rattle.std.specs.Prelude.{◌≡◌, ◌≤◌, ◌+◌, ℕ, Bool, Err, IsTrue, true, false, None, Some, IfOk, IfErr, IfSome, OnOk, OnErr, unwrap_or, option_map};
 ghost use Rattle.vs_defs.specs.Bounds.{IsAddInBounds};
 ghost use Rattle.vs_defs.specs.Counts.{commit_reads};
 ghost use Rattle.vs_defs.specs.Good.{GoodStore};
@@ -14,10 +14,11 @@ ghost use Rattle.vs_bits.specs.Requests.{add_of};
 ghost use Rattle.vs_command.specs.Answers.{answer_of};
 ghost use Rattle.vs_command.specs.Refusals.{refusal_of};
 ghost use Rattle.vs_command.specs.Scores.{HasScores};
+ghost use Rattle.vs_store.specs.Causes.{IsCause, misfit};
 ghost use Rattle.vs_store.specs.Drafts.{IsPrepared, MayCommit, CommitsBy};
-ghost use Rattle.vs_store.specs.Room.{HasRoom, misfit};
 
 use crate::{CommitError, Drafting, Ready, Store};
+use std::alloc::AllocError;
 use std::sync::ledger::Ledger;
 use vs_bits::Add;
 use vs_command::{Answer, Refusal, level_of_word};
@@ -29,7 +30,7 @@ use vs_slot::Slot;
 /// Whether a VADD has the dimension of a set, and its M where it names one: the first cause why not.
 fn check_fit(set: &Set<Kept>, add: &Add) -> Result<(), Refusal>
     ensures suits { OnOk result (Suits set.now.contents (add_of add.now)) }
-    ensures refused { IfErr result (λ e. IsSomeAnd (refusal_of e) (λ cause. misfit (add_of add.now) set.now.contents ≡ Some cause)) }
+    ensures refused { IfErr result (λ e. IsCause e (misfit (add_of add.now) set.now.contents)) }
 {
     if add.bits.dim() != set.dim() {
         return Err(Refusal::WrongDimension {
@@ -52,26 +53,23 @@ impl Store {
         requires at { set_of add.now.key self.now ≡ Some set.now }
         requires new { is_member add.now.name set.now.contents.members ≡ false }
         ensures unrefused { OnOk result (store_refusal (plain self.now) (request.Vadd (add_of add.now)) ≡ None) }
-        ensures suits { OnOk result (Suits set.now.contents (add_of add.now)) }
-        ensures room { OnOk result (HasRoom self.now set.now) }
-        ensures refused { IfErr result (λ e. IsSomeAnd (refusal_of e) (λ cause. store_refusal (plain self.now) (request.Vadd (add_of add.now)) ≡ Some cause)) }
+        ensures refused { IfErr result (λ e. IsCause e (store_refusal (plain self.now) (request.Vadd (add_of add.now)))) }
     {
         check_fit(set, add)?;
-        let count = set.count();
-        if count >= self.limits.set {
-            return Err(Refusal::FullSet { members: count });
-        }
-        if self.members >= self.limits.all {
-            return Err(Refusal::FullAll {
-                members: self.members,
-            });
-        }
-        if self.changes >= self.limits.changes {
-            return Err(Refusal::ChangeLimit {
-                changes: self.changes,
-            });
-        }
+        self.number_of_member(set.count())?;
         Ok(())
+    }
+
+    /// The same of a ready addition that isn't stale.
+    fn check_fresh(&self, ready: &Ready) -> Result<(), Refusal>
+        requires { stale_by ready.now.cut ready.now.add.name (set_of ready.now.add.key self.now) ≡ None }
+        ensures unrefused { OnOk result (store_refusal (plain self.now) (request.Vadd ready.now.add) ≡ None) }
+        ensures refused { IfErr result (λ e. IsCause e (store_refusal (plain self.now) (request.Vadd ready.now.add))) }
+    {
+        let Some(set) = self.set_at(ready.add.key.as_slice()) else {
+            unreachable!()
+        };
+        self.check_new(set, &ready.add)
     }
 
     /// Whether the key is there and the name is no member. It takes no memory.
@@ -161,6 +159,37 @@ impl Store {
         }
     }
 
+    /// Commits a ready addition that is neither stale nor refused.
+    fn commit_fresh<L: Ledger>(
+        &mut self,
+        ready: Ready,
+        reads: &mut Steps<L>,
+    ) -> Result<Answer, NoMemory>
+        requires fresh { stale_by ready.cut ready.add.name (set_of ready.add.key self.old) ≡ None }
+        requires unrefused { store_refusal (plain self.old) (request.Vadd ready.add) ≡ None }
+        requires may { MayCommit self.old ready }
+        ensures committed { IfOk result (λ answer. CommitsBy ready self.old (answer_of answer) self.new) }
+        ensures scores { IfOk result HasScores }
+        ensures good { GoodStore self.new }
+        ensures told { reads.new ≤ reads.old + unwrap_or (option_map (λ x. commit_reads ready.level x.contents.m) (set_of ready.add.key self.old)) 0 }
+        ensures err { OnErr result (self.new ≡ self.old) }
+    {
+        let Ready { add, draft, .. } = ready;
+        let Some(place) = self.place_of(add.key.as_slice()) else {
+            unreachable!()
+        };
+        let Some(set) = self.sets.get_index_mut(place) else {
+            unreachable!()
+        };
+        if set.try_commit(draft, add.attr, reads).is_err() {
+            return Err(AllocError);
+        }
+        let _count = set.count();
+        self.members += 1;
+        self.changes += 1;
+        Ok(Answer::Int(1))
+    }
+
     /// Commits a ready addition, by no search. Where it is stale or refused, or there is no memory, the store is as it was.
     pub fn commit<L: Ledger>(
         &mut self,
@@ -179,21 +208,16 @@ impl Store {
         ensures told { reads.new ≤ reads.old + unwrap_or (option_map (λ x. commit_reads ready.level x.contents.m) (set_of ready.add.key self.old)) 0 }
         ensures err { OnErr result (self.new ≡ self.old) }
     {
+        let _changes = self.changes();
         if let Some((cut_now, taken)) = self.stale(&ready) {
             return Err(CommitError::Stale { cut_now, taken });
         }
-        if let Err(refusal) = self.check_fresh(&ready.add) {
+        if let Err(refusal) = self.check_fresh(&ready) {
             return Err(CommitError::Refused(refusal));
         }
-        let Ready { add, draft, .. } = ready;
-        let Some(set) = self.sets.get_mut(add.key.as_slice()) else {
-            unreachable!()
-        };
-        if set.try_commit(draft, add.attr, reads).is_err() {
-            return Err(CommitError::NoMemory);
+        match self.commit_fresh(ready, reads) {
+            Ok(answer) => Ok(answer),
+            Err(_) => Err(CommitError::NoMemory),
         }
-        self.members += 1;
-        self.changes += 1;
-        Ok(Answer::Int(1))
     }
 }

@@ -1,5 +1,5 @@
 //! A search in two steps: a look, which takes the set of its key as it is, and its answer, which needs no store.
-ghost use Rattle.std.specs.Prelude.{◌≡◌, ◌-◌, false, None, Some, IfOk, IfErr, IfSome, IsSomeAnd};
+ghost use Rattle.std.specs.Prelude.{◌≡◌, ◌-◌, false, None, Some, IfOk, IfErr, IfSome};
 ghost use Rattle.vs_defs.specs.Answers.{FindsOf};
 ghost use Rattle.vs_defs.specs.Bounds.{IsSearchInBounds};
 ghost use Rattle.vs_defs.specs.Counts.{ReadsToFind};
@@ -11,6 +11,7 @@ ghost use Rattle.vs_command.specs.Refusals.{refusal_of};
 ghost use Rattle.vs_command.specs.Requests.{search_of, what_of};
 ghost use Rattle.vs_command.specs.Scores.{HasScores};
 ghost use Rattle.vs_query.specs.Found.{place_sought};
+ghost use Rattle.vs_store.specs.Causes.{IsCause};
 
 use crate::{Looked, Store};
 use std::sync::ledger::Ledger;
@@ -25,7 +26,7 @@ use vs_slot::Slot;
 pub(crate) fn place_in(set: &Set<Kept>, what: &What) -> Result<Option<u32>, Refusal>
     ensures unrefused { IfOk result (λ place. search_refusal (what_of what.now) (Some set.now.contents) ≡ None) }
     ensures sought { IfOk result (λ place. place ≡ place_sought (what_of what.now) set.now.contents.members) }
-    ensures refused { IfErr result (λ e. IsSomeAnd (refusal_of e) (λ cause. search_refusal (what_of what.now) (Some set.now.contents) ≡ Some cause)) }
+    ensures refused { IfErr result (λ e. IsCause e (search_refusal (what_of what.now) (Some set.now.contents))) }
 {
     match what {
         What::Ele(name) => match set.place_of(name.as_slice()) {
