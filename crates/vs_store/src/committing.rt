@@ -1,20 +1,22 @@
 //! An addition with CAS in three steps: a draft, which takes the set of its key as it is, the choice of its links, which needs no store, and
 //! the commit, which runs no beam.
-ghost use Rattle.std.specs.Prelude.{◌≡◌, ◌≤◌, ◌+◌, ℕ, Bool, Err, IsTrue, true, false, None, Some, IfOk, IfErr, IfSome, OnOk, OnErr, unwrap_or, option_map};
+ghost use Rattle.std.specs.Prelude.{◌≡◌, ◌<◌, ◌≤◌, ◌+◌, ◌^◌, ℕ, Bool, Err, IsTrue, true, length, None, Some, IfOk, IfErr, IfSome, OnOk, OnErr, unwrap_or, option_map};
 ghost use Rattle.vs_defs.specs.Bounds.{IsAddInBounds};
 ghost use Rattle.vs_defs.specs.Counts.{commit_reads};
 ghost use Rattle.vs_defs.specs.Good.{GoodStore};
 ghost use Rattle.vs_defs.specs.Refuse.{store_refusal};
 ghost use Rattle.vs_defs.specs.Request as request;
 ghost use Rattle.vs_defs.specs.Stale.{stale_by};
-ghost use Rattle.vs_defs.specs.Store.{set_of, plain, is_member};
-ghost use Rattle.vs_thread_defs.specs.Core.{IsDraftable, Suits};
+ghost use Rattle.vs_defs.specs.Store.{set_of, plain};
+ghost use Rattle.vs_thread_defs.specs.Core.{IsDraftable};
 ghost use Rattle.vs_thread_defs.specs.Interleaving.{can_draft_in};
 ghost use Rattle.vs_bits.specs.Requests.{add_of};
 ghost use Rattle.vs_command.specs.Answers.{answer_of};
 ghost use Rattle.vs_command.specs.Refusals.{refusal_of};
 ghost use Rattle.vs_command.specs.Scores.{HasScores};
-ghost use Rattle.vs_store.specs.Causes.{IsCause, misfit};
+ghost use Rattle.vs_set.specs.Drafted.{Commits, MayCommit as MayCommitDraft};
+ghost use Rattle.vs_set.specs.Kept.{IsSound};
+ghost use Rattle.vs_store.specs.Causes.{IsCause};
 ghost use Rattle.vs_store.specs.Drafts.{IsPrepared, MayCommit, CommitsBy};
 
 use crate::{CommitError, Drafting, Ready, Store};
@@ -23,55 +25,34 @@ use std::sync::ledger::Ledger;
 use vs_bits::Add;
 use vs_command::{Answer, Refusal, level_of_word};
 use vs_graph::{InlineBody, Steps};
-use vs_outside::NoMemory;
+use vs_insert::Draft;
+use vs_outside::{NoMemory, Text};
 use vs_set::{Kept, Set};
 use vs_slot::Slot;
 
-/// Whether a VADD has the dimension of a set, and its M where it names one: the first cause why not.
-fn check_fit(set: &Set<Kept>, add: &Add) -> Result<(), Refusal>
-    ensures suits { OnOk result (Suits set.now.contents (add_of add.now)) }
-    ensures refused { IfErr result (λ e. IsCause e (misfit (add_of add.now) set.now.contents)) }
+/// Adds the member of a draft that isn't stale to a set.
+fn commit_to<L: Ledger>(
+    set: &mut Set<Kept>,
+    draft: Draft,
+    text: Option<Text>,
+    reads: &mut Steps<L>,
+) -> Result<(), NoMemory>
+    requires room { length set.old.contents.members < 2 ^ 20 }
+    requires fresh { stale_by draft.cut draft.body.name (Some set.old) ≡ None }
+    requires may { MayCommitDraft set.old draft }
+    ensures committed { OnOk result (Commits draft text set.old set.new) }
+    ensures sound { OnOk result (IsSound set.new) }
+    ensures told { reads.new ≤ reads.old + commit_reads draft.level set.old.contents.m }
+    ensures err { OnErr result (set.new ≡ set.old) }
 {
-    if add.bits.dim() != set.dim() {
-        return Err(Refusal::WrongDimension {
-            given: add.bits.dim(),
-            has: set.dim(),
-        });
+    if set.try_commit(draft, text, reads).is_err() {
+        return Err(AllocError);
     }
-    match add.m {
-        Some(m) if m != set.m() => Err(Refusal::WrongM {
-            given: m,
-            has: set.m(),
-        }),
-        _ => Ok(()),
-    }
+    let _count = set.count();
+    Ok(())
 }
 
 impl Store {
-    /// Whether a new member may be added to the set of its key: the first cause why not.
-    fn check_new(&self, set: &Set<Kept>, add: &Add) -> Result<(), Refusal>
-        requires at { set_of add.now.key self.now ≡ Some set.now }
-        requires new { is_member add.now.name set.now.contents.members ≡ false }
-        ensures unrefused { OnOk result (store_refusal (plain self.now) (request.Vadd (add_of add.now)) ≡ None) }
-        ensures refused { IfErr result (λ e. IsCause e (store_refusal (plain self.now) (request.Vadd (add_of add.now)))) }
-    {
-        check_fit(set, add)?;
-        self.number_of_member(set.count())?;
-        Ok(())
-    }
-
-    /// The same of a ready addition that isn't stale.
-    fn check_fresh(&self, ready: &Ready) -> Result<(), Refusal>
-        requires { stale_by ready.now.cut ready.now.add.name (set_of ready.now.add.key self.now) ≡ None }
-        ensures unrefused { OnOk result (store_refusal (plain self.now) (request.Vadd ready.now.add) ≡ None) }
-        ensures refused { IfErr result (λ e. IsCause e (store_refusal (plain self.now) (request.Vadd ready.now.add))) }
-    {
-        let Some(set) = self.set_at(ready.add.key.as_slice()) else {
-            unreachable!()
-        };
-        self.check_new(set, &ready.add)
-    }
-
     /// Whether the key is there and the name is no member. It takes no memory.
     pub fn can_draft(&self, add: &Add) -> bool
         ensures { result ≡ can_draft_in (add_of add.now) (set_of add.now.key self.now) }
@@ -112,7 +93,7 @@ impl Store {
         let Some(set) = self.set_at(add.key.as_slice()) else {
             unreachable!()
         };
-        self.check_new(set, &add)?;
+        self.number_to_add(set, &add)?;
         let snap = set.snapshot()?;
         Ok(Drafting {
             alloc: self.alloc,
@@ -159,6 +140,19 @@ impl Store {
         }
     }
 
+    /// Whether a ready addition that isn't stale is refused: the first cause why.
+    fn check_fresh(&self, ready: &Ready) -> Result<(), Refusal>
+        requires { stale_by ready.now.cut ready.now.add.name (set_of ready.now.add.key self.now) ≡ None }
+        ensures unrefused { OnOk result (store_refusal (plain self.now) (request.Vadd ready.now.add) ≡ None) }
+        ensures refused { IfErr result (λ e. IsCause e (store_refusal (plain self.now) (request.Vadd ready.now.add))) }
+    {
+        let Some(set) = self.set_at(ready.add.key.as_slice()) else {
+            unreachable!()
+        };
+        self.number_to_add(set, &ready.add)?;
+        Ok(())
+    }
+
     /// Commits a ready addition that is neither stale nor refused.
     fn commit_fresh<L: Ledger>(
         &mut self,
@@ -178,13 +172,7 @@ impl Store {
         let Some(place) = self.place_of(add.key.as_slice()) else {
             unreachable!()
         };
-        let Some(set) = self.sets.get_index_mut(place) else {
-            unreachable!()
-        };
-        if set.try_commit(draft, add.attr, reads).is_err() {
-            return Err(AllocError);
-        }
-        let _count = set.count();
+        commit_to(&mut self.sets[place], draft, add.attr, reads)?;
         self.members += 1;
         self.changes += 1;
         Ok(Answer::Int(1))
