@@ -17,6 +17,8 @@ mod ready;
 mod removing;
 mod room;
 mod store;
+#[cfg(test)]
+mod tests;
 
 pub use drafting::Drafting;
 pub use error::CommitError;
