@@ -5,5 +5,5 @@ pub mod Changes
 pub mod Adding
 pub mod Refusing
 pub mod Layers
-pub mod Preparing
-pub mod Committing
+pub mod Prepared
+pub mod Committed

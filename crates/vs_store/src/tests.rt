@@ -13,7 +13,7 @@ use vs_outside::{List, Text};
 use vs_slot::Slot;
 use vs_truth::Members;
 
-fn words_of(alloc: Global, line: &str) -> Result<List<Text>, AllocError> {
+pub(crate) fn words_of(alloc: Global, line: &str) -> Result<List<Text>, AllocError> {
     let mut words = List::new(alloc);
     for word in line.split(' ') {
         words.push(Text::from_slice(alloc, word.as_bytes())?)?;
@@ -21,7 +21,7 @@ fn words_of(alloc: Global, line: &str) -> Result<List<Text>, AllocError> {
     Ok(words)
 }
 
-fn are_short(words: &[Text]) -> bool
+pub(crate) fn are_short(words: &[Text]) -> bool
     ensures { IsTrue result → AreShort words.now }
 {
     words.len() < 4294967296 && words.iter().all(|word| word.len() < 4294967296)
