@@ -3,3 +3,4 @@ pub mod Sets
 pub mod Causes
 pub mod Changes
 pub mod Adding
+pub mod Counted
