@@ -2,5 +2,5 @@ pub mod Edits
 pub mod Sets
 pub mod Causes
 pub mod Changes
-pub mod Adding
+pub mod Additions
 pub mod Counted
