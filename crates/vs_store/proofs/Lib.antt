@@ -7,3 +7,5 @@ pub mod Refusing
 pub mod Layers
 pub mod Prepared
 pub mod Committed
+pub mod Additions
+pub mod Counted
