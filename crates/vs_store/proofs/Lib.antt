@@ -8,3 +8,9 @@ pub mod Gone
 pub mod Attributed
 pub mod Removed
 pub mod Deleted
+pub mod Refusing
+pub mod Layers
+pub mod Prepared
+pub mod Committed
+pub mod Additions
+pub mod Counted

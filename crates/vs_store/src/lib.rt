@@ -18,6 +18,10 @@ mod removing;
 mod room;
 mod sought;
 mod store;
+#[cfg(test)]
+mod event_tests;
+#[cfg(test)]
+mod tests;
 
 pub use drafting::Drafting;
 pub use error::CommitError;
