@@ -2,7 +2,6 @@ pub mod Edits
 pub mod Sets
 pub mod Causes
 pub mod Changes
-pub mod Adding
 pub mod Answered
 pub mod Gone
 pub mod Attributed

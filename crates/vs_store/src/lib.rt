@@ -16,7 +16,6 @@ mod querying;
 mod ready;
 mod removing;
 mod room;
-mod sought;
 mod store;
 #[cfg(test)]
 mod event_tests;

@@ -12,10 +12,10 @@ ghost use Rattle.vs_command.specs.Outcomes.{outcome_of};
 ghost use Rattle.vs_command.specs.Refusals.{refusal_of};
 ghost use Rattle.vs_command.specs.Requests.{search_of, what_of};
 ghost use Rattle.vs_command.specs.Scores.{HasScores};
-ghost use Rattle.vs_query.specs.Found.{place_sought as sought};
+ghost use Rattle.vs_query.specs.Found.{place_sought};
 
 use crate::Store;
-use crate::sought::place_sought;
+use crate::looking::place_in;
 use std::alloc::Global;
 use std::marker::Brand;
 use std::sync::ledger::{Blank, Ledger};
@@ -37,7 +37,7 @@ fn found<L: Ledger>(
     requires bounds { IsSearchInBounds (search_of search.now) }
     requires some { 0 < length snap.now.contents.members }
     requires unrefused { search_refusal (what_of search.now.what) (Some snap.now.contents) ≡ None }
-    requires sought { place ≡ sought (what_of search.now.what) snap.now.contents.members }
+    requires sought { place ≡ place_sought (what_of search.now.what) snap.now.contents.members }
     requires name { blank.name ≡ L.name }
     requires parts { blank.parts ≡ L.parts }
     requires counts { 0 < L.parts }
@@ -62,7 +62,7 @@ fn search_in(
     ensures refused { IfErr result (λ e. IfSome (refusal_of e) (λ cause. search_refusal (what_of search.now.what) (Some set.now.contents) ≡ Some cause)) }
     ensures scores { IfOk result HasScores }
 {
-    let place = place_sought(set, &search.what)?;
+    let place = place_in(set, &search.what)?;
     let snap = set.snapshot()?;
     let answer = found::<Brand>(alloc, &snap, search, place, slot, Blank::new(1))?;
     Ok(answer)
