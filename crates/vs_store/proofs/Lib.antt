@@ -1,0 +1,5 @@
+pub mod Edits
+pub mod Sets
+pub mod Causes
+pub mod Changes
+pub mod Counted
