@@ -2,7 +2,6 @@ pub mod Edits
 pub mod Sets
 pub mod Causes
 pub mod Changes
-pub mod Adding
 pub mod Refusing
 pub mod Layers
 pub mod Prepared
