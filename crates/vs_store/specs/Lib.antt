@@ -4,3 +4,4 @@ pub mod Places
 pub mod Causes
 pub mod Snapshots
 pub mod Drafts
+pub mod Fresh
