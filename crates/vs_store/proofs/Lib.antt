@@ -13,3 +13,5 @@ pub mod Prepared
 pub mod Committed
 pub mod Additions
 pub mod Counted
+pub mod Entered
+pub mod Taken

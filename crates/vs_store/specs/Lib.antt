@@ -5,3 +5,4 @@ pub mod Causes
 pub mod Snapshots
 pub mod Drafts
 pub mod Gone
+pub mod Fresh
