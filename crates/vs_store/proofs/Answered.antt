@@ -19,20 +19,13 @@ use Rattle.vs_command.specs.Scores.{HasScores}
 use Rattle.vs_command.specs.declared.answer.Answer.{Answer}
 use Rattle.vs_command.specs.declared.answer.Answer.TheVariants.{Int, Pong, Bye, Bulk, NullText, NullList, Names, Signs, Hits, Layers, Info as Informed}
 use Rattle.vs_command.specs.declared.refusal.Refusal.{Refusal as Cause}
+use Rattle.vs_store.proofs.Changes.{plain_set}
 
 -- ---- the set of a key
 
-pub plain_set : (key : Bytes) (sets : List (Bytes × Set)) → lookup_set key (map (λ e. (e.0, e.1.contents)) sets) ≡ option_map (λ x. x.contents) (lookup_set key sets)
-plain_set key [] = refl
-plain_set key (e ∷ es) = by (same_name key e.0)
-  where
-    by : (b : Bool) → cond b (Some e.1.contents) (lookup_set key (map (λ f. (f.0, f.1.contents)) es)) ≡ option_map (λ x. x.contents) (cond b (Some e.1) (lookup_set key es))
-    by true = refl
-    by false = plain_set key es
-
 -- the contents of the set of a key
 pub contents_at : (key : Bytes) (s : Store Set) (o : Option Set) → o ≡ set_of key s → set_of key (plain s) ≡ option_map (λ x. x.contents) o
-contents_at key s o is = plain_set key s.sets ∙ ap (option_map (λ x. x.contents)) (sym is)
+contents_at key s o is = plain_set s key o (sym is)
 
 -- ---- answers
 

@@ -17,7 +17,7 @@ use Rattle.vs_set.specs.Kept.{IsSound}
 use Rattle.vs_store.specs.Gone.{AreGone}
 use Rattle.vs_store.specs.Kept.{IsKept}
 use Rattle.vs_store.proofs.Causes.{change-limited, limit-free, unchanged-free}
-use Rattle.vs_store.proofs.Changes.{bare_set}
+use Rattle.vs_store.proofs.Counted.{has_plain}
 use Rattle.vs_store.proofs.Edits.{once-map}
 use Rattle.vs_store.proofs.Gone.{all_alike, lookup_without}
 use Rattle.vs_store.proofs.Sets.{bare, members_in}
@@ -27,15 +27,8 @@ use Rattle.vs_store.proofs.Sets.{bare, members_in}
 abbrev pub has : Store Set → Bytes → Bool
 has s key = is_some (set_of key s)
 
-some_mapped : {A B : Type 0} (f : A → B) (o : Option A) → is_some (option_map f o) ≡ is_some o
-some_mapped f None = refl
-some_mapped f (Some a) = refl
-
-has_plain : (s : Store Set) (key : Bytes) → has_key (plain s) key ≡ has s key
-has_plain s key = ap is_some (plain_at key s.sets) ∙ some_mapped (λ (x : Set). x.contents) (set_of key s)
-
 pub deletes_some : (s : Store Set) (keys : List Bytes) → is_change (plain s) (request.Del keys) ≡ list_any (has s) keys
-deletes_some s keys = ap (λ p. list_any p keys) (λ i key. has_plain s key i)
+deletes_some s keys = ap (λ p. list_any p keys) (λ i key. sym (has_plain s key) i)
 
 -- ---- what is left
 
@@ -65,7 +58,7 @@ few_without test sets =
     omega (arith, length-filter_both (λ (e : Bytes × Set). test e.0) (λ (e : Bytes × Set). not (test e.0)) (λ e. refl) sets, length-filter (λ (e : Bytes × Set). test e.0) sets)
 
 module _ (s : Store Set) (keys : List Bytes) (sets : List (Bytes × Set)) (gone members : ℕ) (are : AreGone keys s.sets sets gone members) (good : GoodStore s) where
-  is_gone : Bytes → Bool
+  abbrev is_gone : Bytes → Bool
   is_gone = λ key. listed key keys
 
   gone_is : gone ≡ count_by (λ (e : Bytes × Contents). is_gone e.0) (plain s).sets
@@ -94,7 +87,7 @@ module _ (s : Store Set) (keys : List Bytes) (sets : List (Bytes × Set)) (gone 
           contents = record {
             changes_something = changes;
             sets = alike_bare is_gone s.sets sets are.left;
-            keys = once-map bare_set sets are.once;
+            keys = once-map (λ (x : Set). x.contents) sets are.once;
             answers = ap (λ n. request.Int (pos n)) gone_is;
             number = refl;
             limits = refl;

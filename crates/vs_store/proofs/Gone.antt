@@ -1,7 +1,7 @@
 -- Sets by their keys, some of which were taken out from wherever they stood, with the last in their place.
 --     popped_..      one was taken out
 --     begun, one_gone, none_gone      those of the listed keys, key by key
-use Rattle.std.proofs.Common.{◌≡◌, ℕ, zero, suc, ◌+◌, ◌<◌, ◌≤◌, Bool, true, false, cond, List, [], ◌∷◌, ◌++◌, length, map, get_or, position, refl, sym, ap, ◌∙◌, subst, arith, inl, inr, IsPermutation}
+use Rattle.std.proofs.Common.{◌≡◌, ℕ, zero, suc, ◌+◌, ◌<◌, ◌≤◌, Bool, true, false, cond, List, [], ◌∷◌, ◌++◌, length, map, get_or, position, take, refl, sym, ap, ◌∙◌, subst, arith, inl, inr, IsPermutation}
 use Rattle.std.specs.Prelude.{◌≢◌, ◌||◌, Option, Some, None, All, AllPairs, IfSome, not, is_some, slice_get, sum_by, count_by, swap_remove}
 use Rattle.std.specs.Global.{Vec}
 use Rattle.std.specs.List.{list_any, IsDistinct}
@@ -9,8 +9,9 @@ use Rattle.std.specs.Cmp.{IsEquivalence}
 use Rattle.std.specs.Map.{lookup, keys_of, values_of}
 use Rattle.std.proofs.lemmas.Bool.{cases_Bool, both_ways}
 use Rattle.std.proofs.lemmas.Cmp.{nat_list_eq_equiv}
-use Rattle.std.proofs.lemmas.List.{get_or-map, length-map, get_or_default}
+use Rattle.std.proofs.lemmas.List.{get_or-map, length-map, get_or_default, take_more}
 use Rattle.std.proofs.lemmas.List.Folds.{list_any-append}
+use Rattle.std.proofs.lemmas.List.Kept.{AllPairs-filter}
 use Rattle.std.proofs.lemmas.List.Filters.{length-filter_both}
 use Rattle.std.proofs.lemmas.List.Quantifiers.{position-Some}
 use Rattle.std.proofs.lemmas.List.Sorted.{IsPermutation-map, IsPermutation-swap_remove, length_permutation, sum_by_popped, All-permutation}
@@ -25,9 +26,9 @@ use Rattle.indexmap.specs.IndexMap.{swap_remove_entry}
 use Rattle.indexmap.proofs.MapLemmas.{Found-position, some_index, swap_remove_entry-found, lookup_permutation}
 use Rattle.vs_defs.specs.Bytes.{Bytes, same_name, listed}
 use Rattle.vs_defs.specs.Store.{Set, lookup_set, without_keys, AnswerAlike, HasKeysOnce}
-use Rattle.vs_defs.proofs.Keys.{same_is, same_self, other_order, kept_set, gone_set}
+use Rattle.vs_defs.proofs.Keys.{same_is, kept_set, gone_set}
 use Rattle.vs_store.specs.Gone.{seen, count_in, AreGone}
-use Rattle.vs_store.proofs.Edits.{differs, once-head, once-tail}
+use Rattle.vs_store.proofs.Edits.{same_self, other_order, differs, once-head, once-tail}
 
 names_equal : IsEquivalence same_name
 names_equal = nat_list_eq_equiv
@@ -221,21 +222,23 @@ without_all [] = refl
 without_all (e ∷ es) = ap (λ l. e ∷ l) (without_all es)
 
 pub begun : (old : List (Bytes × Set)) → HasKeysOnce old → AreGone [] old old 0 0
-begun old once = record {
-  left = λ k. ap (lookup_set k) (sym (without_all old));
-  once = once;
-  few = omega arith;
-  sets_are = ap (λ (l : List (Bytes × Set)). length l) (without_all old);
-  members_are = refl;
-  some = λ h. absurd (omega (arith, h));
-  none = λ h. (refl, refl);
-}
+begun old once =
+    let same : length (without_keys (λ key. listed key []) old) ≡ length old = ap (λ (l : List (Bytes × Set)). length l) (without_all old) in
+    record {
+      left = λ k. ap (lookup_set k) (sym (without_all old));
+      once = once;
+      few = omega arith;
+      sets_are = omega (arith, same);
+      members_are = omega arith;
+      some = λ h. absurd (omega (arith, h));
+      none = λ h. (refl, refl);
+    }
 
 module _ (ks : List Bytes) (key : Bytes) (old new : List (Bytes × Set)) (gone members : ℕ) (are : AreGone ks old new gone members) (once : HasKeysOnce old) where
-  is_in : Bytes → Bool
+  abbrev is_in : Bytes → Bool
   is_in = λ k. listed k ks
 
-  is_in_more : Bytes → Bool
+  abbrev is_in_more : Bytes → Bool
   is_in_more = λ k. listed k (ks ++ key ∷ [])
 
   more_is : (k : Bytes) → is_in_more k ≡ (is_in k || same_name key k)
@@ -263,7 +266,7 @@ module _ (ks : List Bytes) (key : Bytes) (old new : List (Bytes × Set)) (gone m
   one_gone x rest taken =
       let there : lookup_set key new ≡ Some x = popped_found key x new rest taken are.once in
       let less : length (without_keys (same_name key) (without_keys is_in old)) + 1 ≡ length (without_keys is_in old)
-      = long_less key (without_keys is_in old) x (keys_without is_in old once) (sym (are.left key) ∙ there) in
+      = long_less key (without_keys is_in old) x (AllPairs-filter (λ e f. e.0 ≢ f.0) (λ e. not (is_in e.0)) old once) (sym (are.left key) ∙ there) in
       let has : list_any (λ k. is_some (lookup_set k old)) (ks ++ key ∷ []) ≡ true
       = any_more (λ k. is_some (lookup_set k old)) ks key ∙ or_last (list_any (λ k. is_some (lookup_set k old)) ks) (is_some (lookup_set key old)) (ap is_some (was_there x there)) in
       record {
@@ -296,3 +299,22 @@ module _ (ks : List Bytes) (key : Bytes) (old new : List (Bytes × Set)) (gone m
                   ∙ or_none (list_any (λ k. is_some (lookup_set k old)) ks) (is_some (lookup_set key old)) was.1 (ap is_some (ap (lookup_set key) (sym was.0) ∙ absent)),
             );
       }
+
+-- ---- one turn of the loop over the keys
+
+-- the set of a key was taken out, by bytes that are the key
+pub taken_by_bytes : (key bytes : Bytes) (es left : List (Vec ℕ × Set)) (x : Set) → bytes ≡ key → lookup (λ k. same_name bytes k.items) es ≡ Some x → left ≡ swap_remove_entry (λ k. same_name bytes k.items) es
+    → IsPermutation (seen es) ((key, x) ∷ seen left)
+taken_by_bytes key bytes es left x same found entries =
+    subst (λ l. IsPermutation (seen es) ((key, x) ∷ seen l)) (sym (entries ∙ ap (λ q. swap_remove_entry (λ k. same_name q k.items) es) same))
+    (taken_by_key key x es (ap (λ q. lookup (λ k. same_name q k.items) es) (sym same) ∙ found))
+
+pub next_key : (keys items : List Bytes) (i : ℕ) (key : Bytes) → items ≡ keys → i < length items → key ≡ get_or items i key → take (i + 1) keys ≡ take i keys ++ key ∷ []
+next_key keys items i key same low at =
+    subst (λ l. take (i + 1) l ≡ take i l ++ key ∷ []) same (take_more items i key low ∙ ap (λ k. take i items ++ k ∷ []) (sym at))
+
+pub are_same : {ks js : List Bytes} (old : List (Bytes × Set)) {new others : List (Bytes × Set)} {gone more members all : ℕ} → js ≡ ks → others ≡ new → more ≡ gone → all ≡ members → AreGone ks old new gone members
+    → AreGone js old others more all
+are_same {ks} {js} old {new} {others} {gone} {more} {members} {all} keys sets one two are =
+    subst (λ k. AreGone k old others more all) (sym keys)
+    (subst (λ n. AreGone ks old n more all) (sym sets) (subst (λ g. AreGone ks old new g all) (sym one) (subst (λ m. AreGone ks old new gone m) (sym two) are)))

@@ -17,7 +17,7 @@ use Rattle.vs_set.specs.Kept.{IsSound}
 use Rattle.vs_store.specs.Kept.{IsKept}
 use Rattle.vs_store.specs.Places.{IsSetAt}
 use Rattle.vs_store.proofs.Causes.{change-limited, limit-free}
-use Rattle.vs_store.proofs.Changes.{bare_set, plain_set, has_some, written_at, found-written, wirings-written, alike-written, keys-written, good-written}
+use Rattle.vs_store.proofs.Changes.{plain_set, has_some, written_at, found-written, wirings-written, alike-written, keys-written, good-written}
 use Rattle.vs_store.proofs.Edits.{differs, once-map}
 use Rattle.vs_store.proofs.Gone.{popped_once, popped_others, popped_none, popped_alike, popped_long, popped_all, popped_sum}
 use Rattle.vs_store.proofs.Sets.{bare, members_in}
@@ -106,7 +106,7 @@ module _ (s : Store Set) (key name : Bytes) (p : ℕ) (x : Set) (at : IsSetAt ke
       let made : drop_none (option_map (removed name n) (set_of key (plain s))) ≡ None
       = ap (λ o. drop_none (option_map (removed name n) o)) (plain_set s key (Some x) at.of_key) ∙ left_none (record x.contents { cut = n }) ms (omega (arith, long, only)) in
       let bare_taken : IsPermutation (plain s).sets ((key, x.contents) ∷ (plain t).sets) = IsPermutation-map bare s.sets ((key, x) ∷ sets) taken in
-      let bare_once = once-map bare_set s.sets good.keys in
+      let bare_once = once-map (λ (x : Set). x.contents) s.sets good.keys in
       let out : TakesOut (set_of key s) name (set_of key t)
       = subst (λ o. TakesOut o name (set_of key t)) (sym at.of_key) (subst (λ o. TakesOut (Some x) name o) (sym (popped_none key x s.sets sets taken good.keys)) tt) in
       record {

@@ -18,6 +18,8 @@ mod removing;
 mod room;
 mod store;
 #[cfg(test)]
+mod change_tests;
+#[cfg(test)]
 mod event_tests;
 #[cfg(test)]
 mod tests;
