@@ -1,17 +1,22 @@
 -- The set of a key, taken as it is by a look or a draft.
 use Rattle.std.proofs.Common.{◌≡◌, ℕ, ◌<◌, Bool, true, false, cond, not, List, [], ◌∷◌, length, refl, sym, ap, ◌∙◌, subst}
-use Rattle.std.specs.Prelude.{Option, Some, None, IsTrue, IfSome, option_map, All}
+use Rattle.std.specs.Prelude.{Option, Some, None, Result, Ok, Err, IfErr, IfSome, IsSomeAnd, IsTrue, is_some, option_map, position, All}
 use Rattle.std.specs.Option.{option_or}
+use Rattle.std.specs.Result.{IsErrAnd}
 use Rattle.std.proofs.lemmas.List.Elements.{All-head, All-tail}
 use Rattle.std.proofs.lemmas.Option.{none-some, same_Some}
 use Rattle.vs_defs.specs.Bounds.{IsAddInBounds, IsSearchInBounds}
 use Rattle.vs_defs.specs.Bytes.{Bytes, same_name}
 use Rattle.vs_defs.specs.Refuse.{store_refusal, search_refusal, change_limit}
 use Rattle.vs_defs.specs.Request as request
-use Rattle.vs_defs.specs.Store.{Contents, Set, Store, is_member, lookup_set, set_of, plain}
+use Rattle.vs_defs.specs.Store.{Contents, Set, Store, is_member, is_of_name, lookup_set, set_of, plain}
 use Rattle.vs_thread_defs.specs.Interleaving.{can_draft_in}
+use Rattle.vs_command.specs.Refusals.{refusal_of}
+use Rattle.vs_command.specs.declared.refusal.Refusal.{Refusal}
 use Rattle.vs_query.specs.Found.{place_sought}
 use Rattle.vs_set.specs.Kept.{IsSound}
+use Rattle.vs_set.proofs.Places.{has_place}
+use Rattle.vs_store.specs.Causes.{IsCause}
 use Rattle.vs_store.specs.Kept.{IsKept}
 use Rattle.vs_store.specs.Snapshots.{Suits, IsLook, IsDraft}
 use Rattle.vs_store.proofs.Changes.{plain_set}
@@ -75,6 +80,24 @@ absent_unrefused s search none = search_alone s search None none ∙ ap (λ o. o
 pub present_refusal : (s : Store Set) (search : request.Search) (x : Set) (o : Option request.Refusal) → set_of search.key s ≡ Some x → search_refusal search.what (Some x.contents) ≡ o
     → store_refusal (plain s) (request.Vsim search) ≡ option_or o None
 present_refusal s search x o at is = search_alone s search (Some x) at ∙ ap (λ r. option_or r None) is
+
+-- the set's cause is the store's
+pub cause_told : {A : Type 0} (s : Store Set) (search : request.Search) (x : Set) → set_of search.key s ≡ Some x → (r : Result A Refusal) (e : Refusal) → IsErrAnd r (λ y. y ≡ e)
+    → IsCause e (search_refusal search.what (Some x.contents)) → IfErr r (λ y. IfSome (refusal_of y) (λ cause. store_refusal (plain s) (request.Vsim search) ≡ Some cause))
+cause_told s search x at (Ok a) e is cause = absurd is
+cause_told s search x at (Err y) e is cause =
+    subst (λ z. IfSome (refusal_of z) (λ cause. store_refusal (plain s) (request.Vsim search) ≡ Some cause)) (sym is) (by (refusal_of e) cause)
+  where
+    by : (o : Option request.Refusal) → IsSomeAnd o (λ cause. search_refusal search.what (Some x.contents) ≡ Some cause) → IfSome o (λ cause. store_refusal (plain s) (request.Vsim search) ≡ Some cause)
+    by None h = absurd h
+    by (Some cause) h = present_refusal s search x (Some cause) at h
+
+-- whether a searched name has a place says whether it is found
+pub name_found : (name : Bytes) (x : Contents) (place : ℕ) → Some place ≡ position (is_of_name name) x.members → search_refusal (request.Ele name) (Some x) ≡ None
+name_found name x place is = ap (λ b. cond b None (Some request.NoSuchElement)) (sym (has_place name x.members) ∙ ap is_some (sym is))
+
+pub no_name : (name : Bytes) (x : Contents) → None ≡ position (is_of_name name) x.members → search_refusal (request.Ele name) (Some x) ≡ Some request.NoSuchElement
+no_name name x is = ap (λ b. cond b None (Some request.NoSuchElement)) (sym (has_place name x.members) ∙ ap is_some (sym is))
 
 pub looked : {s t : Store Set} (view : s ≡ t) {members : ℕ} (kept : IsKept s members) (search : request.Search) (place : Option ℕ) (x : Set) (at : set_of search.key t ≡ Some x) {z : Set} (copy : z ≡ x) → IsSearchInBounds search
     → search_refusal search.what (Some x.contents) ≡ None → place ≡ place_sought search.what x.contents.members → IsLook (record { search = search; set = Some z }) place
