@@ -22,7 +22,8 @@ use Rattle.vs_defs.specs.ProgramWords.{Job, seed, is_plain_number, settings_of, 
 use Rattle.vs_defs.specs.ProgramWords.Job.{Script}
 use Rattle.vs_defs.specs.Decimal.{number_of}
 use Rattle.vs_args.proofs.Digits.{digit_range}
-use Rattle.vs_args.proofs.Options.{is_some_map, lone_step, joined_step, named_step, strange_step}
+use Rattle.vs_laws.proofs.Options.{is_some_of_map}
+use Rattle.vs_args.proofs.Options.{lone_step, joined_step, named_step, strange_step}
 use Rattle.std.proofs.lemmas.List.{take-append-drop}
 use Rattle.std.proofs.lemmas.Bool.Decides.{nat_tests}
 use Rattle.vs_args.specs.Words.{are_plain, job_named}
@@ -278,7 +279,7 @@ script_law w ws false is e = cc
 script_law w ws true is e =
     let word : w ≡ codes "script" = (bytes_eq-Decides w (codes "script")).0 is in
     let plain : is_some (job_by (codes "script") ws) ≡ true = subst (λ x. is_some (job_by x ws) ≡ true) word e in
-    subst (λ x. Seeded (x ∷ ws)) (sym word) (settings_law ws (sym (is_some_map (λ s. Script (setting (codes "--seed") 0 s)) (settings_of (seed ∷ []) ws)) ∙ plain))
+    subst (λ x. Seeded (x ∷ ws)) (sym word) (settings_law ws (sym (is_some_of_map (λ s. Script (setting (codes "--seed") 0 s)) (settings_of (seed ∷ []) ws)) ∙ plain))
 
 -- plain words have a seed, which `clap` reads
 pub seed_law : (words : List Bytes) → are_plain words ≡ true → Seeded words

@@ -21,7 +21,8 @@ use Rattle.vs_set.specs.Kept.{set_by, AreNamed, IsKept, attribute_count, one_if}
 use Rattle.vs_set.specs.Changed.{attributed}
 use Rattle.vs_set.specs.Given.{IsGiven}
 use Rattle.vs_set.proofs.Counting.{has_attr, count_has, count_one}
-use Rattle.vs_set.proofs.Members.{found, is_some_of_map}
+use Rattle.vs_laws.proofs.Options.{is_some_of_map}
+use Rattle.vs_set.proofs.Members.{found}
 
 abbrev name_in : Option Node → Bytes
 name_in o = option_map_or (λ body. body.name) (option_map (λ (n : Node). n.body) o) []

@@ -25,7 +25,8 @@ use Rattle.vs_insert.proofs.Renamed.{renamed_choices}
 use Rattle.vs_order.specs.Entries.{Entries, ids_of, id_of}
 use Rattle.vs_set.specs.Kept.{set_by, AreNamed}
 use Rattle.vs_set.specs.Retaken.{with_id, retaken}
-use Rattle.vs_set.proofs.Members.{found, is_some_of_map, live_at, named_at}
+use Rattle.vs_laws.proofs.Options.{is_some_of_map}
+use Rattle.vs_set.proofs.Members.{found, live_at, named_at}
 
 pub all_done : {X : Type 0} (f : X → X) (d : X) (old now : List X) → length now ≡ length old → ((k : ℕ) (e : X) → k < length old → get_or now k e ≡ f (get_or old k e)) → now ≡ map f old
 all_done f d old now long each =

@@ -6,7 +6,8 @@ use Rattle.vs_bits.specs.Requests.{add_of}
 use Rattle.vs_order.specs.Entries.{ids_of, id_of}
 use Rattle.vs_set.specs.Kept.{set_by, IsKept, one_if}
 use Rattle.vs_set.specs.Changed.{AddsMember}
-use Rattle.vs_set.proofs.Members.{counted, has_is, none_is, fresh_name}
+use Rattle.vs_laws.proofs.Options.{none_is}
+use Rattle.vs_set.proofs.Members.{counted, has_is, fresh_name}
 use Rattle.vs_set.proofs.Added.{added}
 use Rattle.vs_set.proofs.Keeping.{kept_grown}
 use Rattle.vs_set.proofs.Sames.{kept_same, set_same, on_err}

@@ -8,7 +8,8 @@ use Rattle.vs_order.specs.Entries.{ids_of, id_of}
 use Rattle.vs_set.specs.Kept.{set_by, one_if}
 use Rattle.vs_set.specs.Drafted.{Commits}
 use Rattle.vs_set.specs.Retaken.{retaken_draft}
-use Rattle.vs_set.proofs.Members.{none_is, has_is, fresh_name}
+use Rattle.vs_laws.proofs.Options.{none_is}
+use Rattle.vs_set.proofs.Members.{has_is, fresh_name}
 use Rattle.vs_set.proofs.Retaking.{are_drafted}
 use Rattle.vs_set.proofs.Drafts.{kept_committed, commits}
 use Rattle.vs_set.proofs.set.Set.commit_fresh.Goals as goal
