@@ -8,8 +8,7 @@ use Rattle.vs_defs.specs.Bytes.{Bytes}
 use Rattle.vs_defs.specs.Stream.{Message, Border, Within, Broken, BadCount, BadEnd, Splits, Whole, Reading, message_at, with_words, End}
 use Rattle.vs_defs.specs.Request as request
 use Rattle.vs_defs.specs.Request.{Answer}
-use Rattle.vs_defs.specs.Read.{draws}
-use Rattle.vs_defs.specs.Stages.{plain_read}
+use Rattle.vs_defs.specs.Read.{read, draws}
 use Rattle.vs_defs.specs.Store.{usual_limits}
 use Rattle.vs_defs.specs.Reply.{Outcome, Answered, Refused, OutOfMemory, reply}
 use Rattle.vs_defs.specs.PlainMachine.{PlainCall, PlainHistory}
@@ -19,10 +18,10 @@ use Rattle.vs_session_defs.specs.Session.{Serves, Finished, ReadPart, MemoryPart
 
 -- connections that leave an empty store empty
 abbrev Ends : Lcg → Bytes → Bytes → Ending → Type 0
-Ends g input output how = Finished (PlainCall usual_limits) true plain_read draws 0 g [] input output [] g how
+Ends g input output how = Finished (PlainCall usual_limits) true read draws 0 g [] input output [] g how
 
 abbrev ServesEmpty : Lcg → List Message → List Outcome → Type 0
-ServesEmpty g ms os = Serves (PlainCall usual_limits) true plain_read draws 0 g [] ms os [] g
+ServesEmpty g ms os = Serves (PlainCall usual_limits) true read draws 0 g [] ms os [] g
 
 one_ping : Message
 one_ping = codes "PING" ∷ []
@@ -123,7 +122,7 @@ starved g = record {
 }
 
 -- three PING, and a sink whose second call fails
-lacks_a_reply : (g : Lcg) → LacksOfReply (PlainCall usual_limits) true plain_read draws 0 g [] (codes "PING\r\nPING\r\nPING\r\n") (codes "+PONG\r\n") [] g
+lacks_a_reply : (g : Lcg) → LacksOfReply (PlainCall usual_limits) true read draws 0 g [] (codes "PING\r\nPING\r\nPING\r\n") (codes "+PONG\r\n") [] g
 unfolding one_ping
 lacks_a_reply g = record {
   missing = codes "+PONG\r\n";
@@ -141,7 +140,7 @@ lacks_a_reply g = record {
   of_last_reply = lit≤ tt;
 }
 
-lacks_a_line_end : (g : Lcg) → LacksOfFault (PlainCall usual_limits) true plain_read draws 0 g [] (codes "*1\r\n$3\r\nabcX") (codes "-ERR Protocol error: bad bulk end at byte 11\r") [] g
+lacks_a_line_end : (g : Lcg) → LacksOfFault (PlainCall usual_limits) true read draws 0 g [] (codes "*1\r\n$3\r\nabcX") (codes "-ERR Protocol error: bad bulk end at byte 11\r") [] g
 unfolding digits
 lacks_a_line_end g = record {
   missing = codes "\n";
@@ -162,10 +161,10 @@ lacks_a_line_end g = record {
 -- ---- ends that came first
 
 abbrev ReadsEmpty : Lcg → Bytes → Bytes → PlainHistory → Lcg → Type 0
-ReadsEmpty g input output t h = ReadPart (PlainCall usual_limits) true plain_read draws 0 g [] input output t h
+ReadsEmpty g input output t h = ReadPart (PlainCall usual_limits) true read draws 0 g [] input output t h
 
 abbrev LosesMemory : Lcg → Bytes → Bytes → PlainHistory → Lcg → Type 0
-LosesMemory g input output t h = MemoryPart (PlainCall usual_limits) true plain_read draws 0 g [] input output t h
+LosesMemory g input output t h = MemoryPart (PlainCall usual_limits) true read draws 0 g [] input output t h
 
 -- after PING and a part of a message a read fails
 read_within : (g : Lcg) → ReadsEmpty g (codes "PING\r\n*2\r\n$5\r\nab") (codes "+PONG\r\n") [] g
@@ -212,7 +211,7 @@ quits_by (Answered (request.Informed info)) is other = true≢false (sym (ap beg
 quits_by (Refused cause) is other = true≢false (sym (ap begins_as_bye is))
 quits_by OutOfMemory is other = true≢false (sym (ap begins_as_bye is))
 
-one_quits : (g : Lcg) (m : Message) (os : List Outcome) (t : PlainHistory) (h : Lcg) → Serves (PlainCall usual_limits) true plain_read draws 0 g [] (m ∷ []) os t h →
+one_quits : (g : Lcg) (m : Message) (os : List Outcome) (t : PlainHistory) (h : Lcg) → Serves (PlainCall usual_limits) true read draws 0 g [] (m ∷ []) os t h →
     codes "+OK\r\n" ≡ replies os → quits os ≡ false → ⊥
 one_quits g m [] t h serves written other = serves
 one_quits g m (o ∷ []) t h serves written other = quits_by o (sym (written ∙ append-nil (reply o))) other
@@ -226,7 +225,7 @@ not_after_quit g t h r =
     let is = splits_once true (codes "QUIT\r\n") b.messages ((codes "QUIT" ∷ []) ∷ []) b.ends Border b.splits quits in
     let all : b.answered ≡ (codes "QUIT" ∷ []) ∷ [] = r.all ∙ ap with_words is.0 in
     one_quits g (codes "QUIT" ∷ []) b.outcomes t h
-    (subst (λ (ms : List Message). Serves (PlainCall usual_limits) true plain_read draws 0 g [] ms b.outcomes t h) all b.serves) b.written r.no_quit
+    (subst (λ (ms : List Message). Serves (PlainCall usual_limits) true read draws 0 g [] ms b.outcomes t h) all b.serves) b.written r.no_quit
 
 -- nor behind a fault
 not_after_fault : (g : Lcg) (t : PlainHistory) (h : Lcg) → ReadsEmpty g (codes "PING\r\n*x and more") (codes "+PONG\r\n") t h → ⊥
@@ -253,7 +252,7 @@ no_memory_at_once g = record {
   reading = inl refl;
 }
 
-none_answered : (g : Lcg) (os : List Outcome) (t : PlainHistory) (h : Lcg) → Serves (PlainCall usual_limits) true plain_read draws 0 g [] [] os t h → codes "+PONG\r\n" ≡ replies os → ⊥
+none_answered : (g : Lcg) (os : List Outcome) (t : PlainHistory) (h : Lcg) → Serves (PlainCall usual_limits) true read draws 0 g [] [] os t h → codes "+PONG\r\n" ≡ replies os → ⊥
 none_answered g [] t h serves written = cc
 none_answered g (o ∷ os) t h serves written = serves
 
@@ -277,5 +276,5 @@ not_at_a_border g t h l =
     elim l.reading [
       | inl none ↦ cc
       | inr some ↦ let all : b.answered ≡ [] = l.before.all ∙ ap with_words (one_alone l.front l.rest b.messages l.parts some splits) in
-          none_answered g b.outcomes t h (subst (λ (ms : List Message). Serves (PlainCall usual_limits) true plain_read draws 0 g [] ms b.outcomes t h) all b.serves) b.written
+          none_answered g b.outcomes t h (subst (λ (ms : List Message). Serves (PlainCall usual_limits) true read draws 0 g [] ms b.outcomes t h) all b.serves) b.written
     ]

@@ -6,8 +6,7 @@ use lib.Count.{count_trailing_zeros}
 use Rattle.vs_defs.specs.Stream.{Message, words_of_line, Border}
 use Rattle.vs_defs.specs.Request as request
 use Rattle.vs_defs.specs.Request.{Add}
-use Rattle.vs_defs.specs.Read.{draws}
-use Rattle.vs_defs.specs.Stages.{plain_read}
+use Rattle.vs_defs.specs.Read.{read, draws}
 use Rattle.vs_defs.specs.Store.{PlainStore, usual_limits}
 use Rattle.vs_defs.specs.Reply.{Answered, Refused}
 use Rattle.vs_defs.specs.History.{Entry}
@@ -52,7 +51,7 @@ first_follows = record {
 }
 
 -- the refused words draw nothing
-session : Finished (PlainCall usual_limits) true plain_read draws 0 (generator 0 0) [] (codes "VADD s VALUES 3 1 -2 0 a BIN\r\nVADD s VALUES 2 1 1 b\r\nGET s\r\n")
+session : Finished (PlainCall usual_limits) true read draws 0 (generator 0 0) [] (codes "VADD s VALUES 3 1 -2 0 a BIN\r\nVADD s VALUES 2 1 1 b\r\nGET s\r\n")
     (codes ":1\r\n-ERR vector has 2 components, the set has 3\r\n-ERR unknown command\r\n") (first_entry ∷ []) (after_draws 2 (generator 0 0)) Ended
 unfolding digits count_trailing_zeros
 session = record {

@@ -1,0 +1,23 @@
+//! The sets by their keys.
+ghost use Rattle.std.specs.Prelude.{◌≡◌, is_some};
+ghost use Rattle.std.specs.Option.{option_copied};
+ghost use Rattle.vs_defs.specs.Store.{set_of};
+
+use crate::Store;
+use vs_set::{Kept, Set};
+
+impl Store {
+    /// The set of a key.
+    pub(crate) fn set_at(&self, key: &[u8]) -> Option<&Set<Kept>>
+        ensures { option_copied result ≡ set_of key.now self.now }
+    {
+        self.sets.get(key)
+    }
+
+    /// Whether a key has a set.
+    pub(crate) fn has_key(&self, key: &[u8]) -> bool
+        ensures { result ≡ is_some (set_of key.now self.now) }
+    {
+        self.set_at(key).is_some()
+    }
+}

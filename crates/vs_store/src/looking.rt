@@ -1,0 +1,57 @@
+//! A search in two steps: a look, which takes the set of its key as it is, and its answer, which needs no store.
+ghost use Rattle.std.specs.Prelude.{◌≡◌, ◌-◌, false, None, Some, IfOk, IfErr, IfSome};
+ghost use Rattle.vs_defs.specs.Answers.{FindsOf};
+ghost use Rattle.vs_defs.specs.Bounds.{IsSearchInBounds};
+ghost use Rattle.vs_defs.specs.Counts.{ReadsToFind};
+ghost use Rattle.vs_defs.specs.Refuse.{store_refusal};
+ghost use Rattle.vs_defs.specs.Request as request;
+ghost use Rattle.vs_defs.specs.Store.{set_of, plain};
+ghost use Rattle.vs_command.specs.Answers.{answer_of};
+ghost use Rattle.vs_command.specs.Refusals.{refusal_of};
+ghost use Rattle.vs_command.specs.Requests.{search_of};
+ghost use Rattle.vs_command.specs.Scores.{HasScores};
+
+use crate::{Looked, Store};
+use std::alloc::AllocError;
+use std::sync::ledger::Ledger;
+use vs_command::{Answer, Refusal, Search};
+use vs_graph::Steps;
+use vs_outside::NoMemory;
+use vs_slot::Slot;
+
+impl Store {
+    /// Takes the set of the search's key as it is, or notes that the key is absent. The search is copied.
+    pub fn look(&self, search: &Search) -> Result<Looked, Refusal>
+        requires bounds { IsSearchInBounds (search_of search.now) }
+        ensures search { IfOk result (λ l. l.search ≡ search_of search.now) }
+        ensures set { IfOk result (λ l. l.set ≡ set_of search.now.key self.now) }
+        ensures unrefused { IfOk result (λ l. store_refusal (plain self.now) (request.Vsim (search_of search.now)) ≡ None) }
+        ensures refused { IfErr result (λ e. IfSome (refusal_of e) (λ cause. store_refusal (plain self.now) (request.Vsim (search_of search.now)) ≡ Some cause)) }
+    {
+        self.look_with(search.try_clone()?)
+    }
+
+    /// The same with a search that is given up. Besides the snapshot it takes no memory.
+    pub fn look_with(&self, search: Search) -> Result<Looked, Refusal>
+        requires bounds { IsSearchInBounds (search_of search) }
+        ensures search { IfOk result (λ l. l.search ≡ search_of search) }
+        ensures set { IfOk result (λ l. l.set ≡ set_of search.key self.now) }
+        ensures unrefused { IfOk result (λ l. store_refusal (plain self.now) (request.Vsim (search_of search)) ≡ None) }
+        ensures refused { IfErr result (λ e. IfSome (refusal_of e) (λ cause. store_refusal (plain self.now) (request.Vsim (search_of search)) ≡ Some cause)) }
+    {
+        Err(Refusal::NoMemory)
+    }
+
+    /// Answers a search in the set at its look.
+    pub fn finish<L: Ledger>(
+        looked: Looked,
+        slot: &mut Slot,
+        reads: &mut Steps<L>,
+    ) -> Result<Answer, NoMemory>
+        ensures found { IfOk result (λ answer. FindsOf looked.search looked.set (answer_of answer)) }
+        ensures scores { IfOk result HasScores }
+        ensures told { IfOk result (λ answer. looked.search.truth ≡ false → ReadsToFind looked.search looked.set (answer_of answer) (reads.new - reads.old)) }
+    {
+        Err(AllocError)
+    }
+}
