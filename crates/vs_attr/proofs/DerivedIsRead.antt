@@ -4,6 +4,7 @@ use Rattle.std.specs.Char.{is_ascii_digit}
 use Rattle.std.proofs.lemmas.Bool.{eqb-true, false≢true}
 use Rattle.std.proofs.lemmas.Bool.Decides.{nat_tests}
 use Rattle.std.proofs.Math.Bool.{or-true}
+use Rattle.vs_defs.specs.Limits.{max_json_depth}
 use Rattle.vs_defs.specs.Bytes.{Bytes}
 use Rattle.vs_defs.specs.Numeral as numeral
 use Rattle.vs_defs.specs.Numeral.{begins_with, digits_of, after_digits, is_empty, without}
@@ -316,10 +317,10 @@ mutual
 -- ---- whole texts
 
 abbrev json_by : Bool → Bytes → Option Json
-json_by v s = elim v [ true ↦ whole_value (value_within (2 * length s + 2) 64 s) | false ↦ None ]
+json_by v s = elim v [ true ↦ whole_value (value_within (2 * length s + 2) max_json_depth s) | false ↦ None ]
 
 pub derived_is_read : (s : Bytes) (j : Json) → Derived s j → json_of s ≡ Some j
 derived_is_read s j h =
-    let w : Done 64 j h.at h.rest = value_done h.spelled (space_ends h.after tt) in
-    ap (λ v. json_by v s) h.utf8 ∙ ap whole_value (value_whole 64 s ∙ value_same 64 h.before ∙ w.1)
+    let w : Done max_json_depth j h.at h.rest = value_done h.spelled (space_ends h.after tt) in
+    ap (λ v. json_by v s) h.utf8 ∙ ap whole_value (value_whole max_json_depth s ∙ value_same max_json_depth h.before ∙ w.1)
     ∙ ap (λ t. cond (is_empty t) (Some j) None) (skip_same w.2 ∙ skip_same h.after)

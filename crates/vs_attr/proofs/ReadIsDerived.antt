@@ -7,6 +7,7 @@ use Rattle.std.proofs.lemmas.Bool.{eqb-true, false≢true}
 use Rattle.std.proofs.lemmas.Bool.Decides.{nat_tests}
 use Rattle.std.proofs.lemmas.List.{take-append-drop, take_at}
 use lib.Pointwise.{bytes_decides}
+use Rattle.vs_defs.specs.Limits.{max_json_depth}
 use Rattle.vs_defs.specs.Bytes.{Bytes}
 use Rattle.vs_defs.specs.Numeral as numeral
 use Rattle.vs_defs.specs.Numeral.{digits_of, after_digits, is_empty}
@@ -379,7 +380,7 @@ all_read (suc k) =
 
 -- ---- whole texts
 
-whole_end : (s : Bytes) (j : Json) (p : Json × Bytes) (v : Bool) → is_utf8 s ≡ true → SpacedValue 64 s p.0 p.1 → is_empty (skip_space p.1) ≡ v → cond v (Some p.0) None ≡ Some j → Derived s j
+whole_end : (s : Bytes) (j : Json) (p : Json × Bytes) (v : Bool) → is_utf8 s ≡ true → SpacedValue max_json_depth s p.0 p.1 → is_empty (skip_space p.1) ≡ v → cond v (Some p.0) None ≡ Some j → Derived s j
 whole_end s j p false u h e f = absurd (cc)
 whole_end s j p true u h e f =
     let g : p.0 ≡ j = cc in
@@ -388,19 +389,19 @@ whole_end s j p true u h e f =
       at = h.0;
       rest = p.1;
       before = h.1;
-      spelled = subst (λ i. Value 64 i h.0 p.1) g h.2;
+      spelled = subst (λ i. Value max_json_depth i h.0 p.1) g h.2;
       after = subst (Space p.1) (no_bytes (skip_space p.1) e) (skipped p.1);
     }
 
-whole_read_by : (s : Bytes) (j : Json) (o : Front Json) → is_utf8 s ≡ true → Reads (SpacedValue 64 s) o → whole_value o ≡ Some j → Derived s j
+whole_read_by : (s : Bytes) (j : Json) (o : Front Json) → is_utf8 s ≡ true → Reads (SpacedValue max_json_depth s) o → whole_value o ≡ Some j → Derived s j
 whole_read_by s j None u h e = absurd (cc)
 whole_read_by s j (Some p) u h e = whole_end s j p (is_empty (skip_space p.1)) u h refl e
 
 abbrev json_by : Bool → Bytes → Option Json
-json_by v s = elim v [ true ↦ whole_value (value_within (2 * length s + 2) 64 s) | false ↦ None ]
+json_by v s = elim v [ true ↦ whole_value (value_within (2 * length s + 2) max_json_depth s) | false ↦ None ]
 
 read_by : (s : Bytes) (j : Json) (v : Bool) → is_utf8 s ≡ v → json_by v s ≡ Some j → Derived s j
-read_by s j true u e = whole_read_by s j (value_within (2 * length s + 2) 64 s) u ((all_read (2 * length s + 2)).values 64 s) e
+read_by s j true u e = whole_read_by s j (value_within (2 * length s + 2) max_json_depth s) u ((all_read (2 * length s + 2)).values max_json_depth s) e
 read_by s j false u e = absurd (cc)
 
 pub read_is_derived : (s : Bytes) (j : Json) → json_of s ≡ Some j → Derived s j
