@@ -18,11 +18,11 @@ use Rattle.clap.specs.Lexer.{long_of, short_of, strip_byte}
 use Rattle.clap.proofs.OnLiterals.{clap_on_literals}
 use Rattle.vs_defs.specs.Bytes.{Bytes, same_name}
 use Rattle.vs_defs.specs.Numeral.{is_empty}
-use Rattle.vs_defs.specs.ProgramWords.{Job, seed, is_plain_number, settings_of, setting, with_setting, value_in, job_by, choice_within, choice_named}
+use Rattle.vs_defs.specs.ProgramWords.{seed, is_plain_number, settings_of, setting, with_setting, value_in, job_by, choice_within, choice_named}
 use Rattle.vs_defs.specs.ProgramWords.Job.{Script}
 use Rattle.vs_defs.specs.Decimal.{number_of}
 use Rattle.vs_decimal.proofs.DigitLists.{digit_range}
-use Rattle.vs_laws.proofs.Options.{is_some_of_map}
+use Rattle.vs_laws.proofs.Options.{is_some_of_map, none_is}
 use Rattle.vs_args.proofs.Options.{lone_step, joined_step, named_step, strange_step}
 use Rattle.std.proofs.lemmas.List.{take-append-drop}
 use Rattle.std.proofs.lemmas.Bool.{and_from, and_parts}
@@ -271,7 +271,4 @@ pub words_utf8 : (words : List Bytes) → are_plain words ≡ true → All IsUtf
 words_utf8 words e = (seed_law words e).1.utf8
 
 pub no_job : (words : List Bytes) → are_plain words ≡ false → job_named words ≡ None
-no_job words e = none (job_named words) e where
-  none : (o : Option Job) → is_some o ≡ false → o ≡ None
-  none None e = refl
-  none (Some j) e = cc
+no_job words e = none_is (job_named words) e

@@ -1,19 +1,19 @@
 -- Why a store refuses a change, or doesn't, and what follows from its answers.
-use Rattle.std.proofs.Common.{◌≡◌, ℕ, ◌<◌, ◌≤◌, Bool, true, false, cond, List, [], ◌∷◌, length, refl, sym, ap, ◌∙◌, subst}
-use Rattle.std.specs.Prelude.{Result, Ok, Err, Option, Some, None, not, ◌&&◌, nat_le, IsSomeAnd}
+use Rattle.std.proofs.Common.{◌≡◌, ℕ, ◌+◌, ◌<◌, ◌≤◌, Bool, true, false, cond, List, [], ◌∷◌, length, refl, sym, ap, ◌∙◌, subst, arith}
+use Rattle.std.specs.Prelude.{Result, Ok, Err, Option, Some, None, not, ◌&&◌, nat_le, is_some, IsSomeAnd}
 use Rattle.std.specs.Option.{option_or}
 use Rattle.std.specs.Result.{IsErrAnd}
-use Rattle.std.proofs.lemmas.Bool.{le-leb, lt-leb}
-use Rattle.vs_laws.proofs.Options.{none_is}
+use Rattle.std.proofs.lemmas.Bool.{both_ways, le-leb, lt-leb}
 use Rattle.vs_defs.specs.Bytes.{Bytes}
 use Rattle.vs_defs.specs.PlainMachine.{PlainDoes}
-use Rattle.vs_defs.specs.Refuse.{first_cause, store_refusal, add_refusal, add_to_set, add_key, change_limit, is_full_all, full_all, is_change}
+use Rattle.vs_defs.specs.Refuse.{first_cause, store_refusal, add_refusal, add_to_set, add_key, change_limit, is_full_all, full_all, wrong_dimension, wrong_m, is_change}
 use Rattle.vs_defs.specs.Request.{Request, Add, Refusal}
 use Rattle.vs_defs.specs.Request as request
 use Rattle.vs_defs.specs.PlainStep.{added, added_to}
 use Rattle.vs_defs.specs.Store.{Member, Contents, PlainStore, set_of, is_member, member_of, member_count}
 use Rattle.vs_command.specs.Outcomes.{refused_by, outcome_of}
 use Rattle.vs_command.specs.declared.answer.Answer.{Answer}
+use Rattle.vs_command.specs.Refusals.{refusal_of}
 use Rattle.vs_command.specs.declared.refusal.Refusal.{Refusal as Cause}
 use Rattle.vs_command.specs.declared.refusal.Refusal.TheVariants.{ChangeLimit}
 use Rattle.vs_plain_store.specs.Kept.{IsSetAt, misfit}
@@ -101,8 +101,12 @@ room-for-member s add x fits is h =
 pub at-seen : (s t : PlainStore) (key : Bytes) (place : ℕ) (x : Contents) → s ≡ t → IsSetAt key place t x → IsSetAt key place s x
 at-seen s t key place x e at = subst (λ u. IsSetAt key place u x) (sym e) at
 
+none_of : {A : Type 0} (o : Option A) → is_some o ≡ false → o ≡ None
+none_of None f = refl
+none_of (Some a) f = absurd (both_ways true f refl)
+
 pub no_member : (name : Bytes) (members : List Member) → is_member name members ≡ false → member_of name members ≡ None
-no_member name members f = none_is (member_of name members) f
+no_member name members f = none_of (member_of name members) f
 
 -- ---- what VADD makes of a set
 

@@ -3,7 +3,7 @@
 --     counted_given          how many members have an attribute then
 --     with_none              an attribute for a name that is no member's changes nobody
 --     kept_given, set_given, counts      the set after it
-use Rattle.std.proofs.Common.{◌≡◌, ◌≢◌, ℕ, ◌+◌, ◌≤◌, Bool, true, false, cond, List, [], ◌∷◌, refl, sym, ap, ◌∙◌, arith, subst, get_or, is_some, inl, inr}
+use Rattle.std.proofs.Common.{◌≡◌, ℕ, ◌+◌, ◌≤◌, Bool, true, false, cond, List, [], ◌∷◌, refl, sym, ap, ◌∙◌, arith, subst, get_or, is_some, inl, inr}
 use Rattle.std.specs.Prelude.{IsSome, option_map, Some, None}
 use Rattle.std.specs.Option.{option_map_or}
 use Rattle.std.specs.declared.option.Option.{Option}

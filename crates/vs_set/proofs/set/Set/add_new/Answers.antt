@@ -1,10 +1,10 @@
-use Rattle.std.proofs.Common.{◌≡◌, ◌<◌, ◌≤◌, ◌^◌, ◌+◌, ◌++◌, ◌∷◌, [], false, length, None, sym, ap, ◌∙◌, subst, arith, is_some}
+use Rattle.std.proofs.Common.{◌≡◌, ◌+◌, ◌++◌, ◌∷◌, [], length, None, sym, ap, ◌∙◌, subst, arith, is_some}
 use Rattle.std.proofs.lemmas.List.Sums.{count_by-le-length}
 use Rattle.vs_defs.specs.Store.{Member, is_member}
 use Rattle.vs_graph.specs.Standing.{members_of}
 use Rattle.vs_bits.specs.Requests.{add_of}
 use Rattle.vs_order.specs.Entries.{ids_of, id_of}
-use Rattle.vs_set.specs.Kept.{set_by, IsKept, one_if}
+use Rattle.vs_set.specs.Kept.{set_by, IsKept}
 use Rattle.vs_set.specs.Changed.{AddsMember}
 use Rattle.vs_laws.proofs.Options.{none_is}
 use Rattle.vs_set.proofs.Members.{counted, has_is, fresh_name}
