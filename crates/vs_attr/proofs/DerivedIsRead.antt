@@ -1,7 +1,7 @@
 -- What the grammar derives is read by the definition's reader.
 use Rattle.std.proofs.Common.{◌≡◌, ℕ, suc, ◌+◌, ◌-◌, ◌*◌, ◌≤◌, ◌==◌, Bool, true, false, cond, ◌||◌, List, [], ◌∷◌, ◌++◌, Option, Some, None, length, drop, take, refl, ap, sym, ◌∙◌, subst, arith, option_map, option_and_then, codes, nat_lt}
 use Rattle.std.specs.Char.{is_ascii_digit}
-use Rattle.std.proofs.lemmas.Bool.{eqb-true, false≢true}
+use Rattle.std.proofs.lemmas.Bool.{eqb-true, false≢true, le-ltb}
 use Rattle.std.proofs.lemmas.Bool.Decides.{nat_tests}
 use Rattle.std.proofs.Math.Bool.{or-true}
 use Rattle.vs_defs.specs.Limits.{max_json_depth}
@@ -195,13 +195,10 @@ number_done d n r h e =
 
 -- ---- texts
 
-control : (c : ℕ) → 32 ≤ c → nat_lt c 32 ≡ false
-control c h = grind (arith, nat_tests)
-
 inner_plain : (c : ℕ) (s : Bytes) → 32 ≤ c → (c == 34) ≡ false → (c == 92) ≡ false → inner_at (c ∷ s) ≡ Some (json.plain c, s)
 inner_plain c s l q b =
     ap (λ v. inner_by v (piece_at (c ∷ s))) q ∙ ap (λ v. cond v (escape_at s) (cond (nat_lt c 32) None (Some (json.plain c, s)))) b
-    ∙ ap (λ v. cond v None (Some (json.plain c, s))) (control c l)
+    ∙ ap (λ v. cond v None (Some (json.plain c, s))) (le-ltb c 32 l)
 
 inner_short : (c b : ℕ) (s : Bytes) → (c == 117) ≡ false → short_escape c ≡ Some b → inner_at (92 ∷ c ∷ s) ≡ Some (json.plain b, s)
 inner_short c b s n e =
