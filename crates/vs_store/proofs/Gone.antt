@@ -2,7 +2,7 @@
 --     popped_..      one was taken out
 --     begun, one_gone, none_gone      those of the listed keys, key by key
 use Rattle.std.proofs.Common.{◌≡◌, ℕ, zero, suc, ◌+◌, ◌<◌, ◌≤◌, Bool, true, false, cond, List, [], ◌∷◌, ◌++◌, length, map, get_or, position, take, refl, sym, ap, ◌∙◌, subst, arith, inl, inr, IsPermutation}
-use Rattle.std.specs.Prelude.{◌≢◌, ◌||◌, Option, Some, None, All, AllPairs, IfSome, not, is_some, slice_get, sum_by, count_by, swap_remove}
+use Rattle.std.specs.Prelude.{◌≢◌, ◌||◌, Option, Some, None, All, AllPairs, IfSome, not, is_some, option_map, slice_get, sum_by, count_by, swap_remove}
 use Rattle.std.specs.Global.{Vec}
 use Rattle.std.specs.List.{list_any, IsDistinct}
 use Rattle.std.specs.Cmp.{IsEquivalence}
@@ -20,7 +20,7 @@ use Rattle.std.proofs.lemmas.Map.Entries.{All-lookup}
 use Rattle.std.proofs.lemmas.Map.Keys.{IsDistinct-IsPermutation}
 use Rattle.std.proofs.lemmas.Map.Made.{IsDistinct-from_AllPairs, AllPairs-from_IsDistinct}
 use Rattle.std.proofs.lemmas.Map.Views.{All-values_from_lookup}
-use Rattle.std.proofs.lemmas.Option.{none-some, same_Some, get_or_from_slice_get, slice_get_within}
+use Rattle.std.proofs.lemmas.Option.{none-some, same_Some, get_or_from_slice_get, slice_get_within, slice_get-map}
 use Rattle.std.proofs.lemmas.Slice.Eq.{bytes_eq-Decides}
 use Rattle.indexmap.specs.IndexMap.{swap_remove_entry}
 use Rattle.indexmap.proofs.MapLemmas.{Found-position, some_index, swap_remove_entry-found, lookup_permutation}
@@ -145,7 +145,7 @@ taken_by_key key x (e ∷ es) is = by (position t (keys_of all)) refl
         (subst (λ g. IsPermutation (seen all) (g ∷ seen (swap_remove all i f))) pair (IsPermutation-map (λ (g : Vec ℕ × Set). (g.0.items, g.1)) all (f ∷ swap_remove all i f) moved))
 
 -- the one at a place
-pub taken_at : (es : List (Vec ℕ × Set)) (place : ℕ) (key : Bytes) (x : Set) (e : Vec ℕ × Set) → slice_get es place ≡ Some e → slice_get (seen es) place ≡ Some (key, x)
+taken_at : (es : List (Vec ℕ × Set)) (place : ℕ) (key : Bytes) (x : Set) (e : Vec ℕ × Set) → slice_get es place ≡ Some e → slice_get (seen es) place ≡ Some (key, x)
     → IsPermutation (seen es) ((key, x) ∷ seen (swap_remove es place e))
 taken_at es place key x e at is =
     let within : place < length es = slice_get_within es place e at in
@@ -155,6 +155,13 @@ taken_at es place key x e at is =
     ∙ get_or_from_slice_get (seen es) place (key, x) (e.0.items, e.1) is in
     subst (λ g. IsPermutation (seen es) (g ∷ seen (swap_remove es place e))) pair
     (IsPermutation-map (λ (g : Vec ℕ × Set). (g.0.items, g.1)) es (e ∷ swap_remove es place e) (IsPermutation-swap_remove es place e within own))
+
+-- by what `swap_remove_index` gave
+pub taken_by_place : (es left : List (Vec ℕ × Set)) (place : ℕ) (key : Bytes) (x : Set) → slice_get (seen es) place ≡ Some (key, x) → (r : Option (Vec ℕ × Set)) → r ≡ slice_get es place
+    → IfSome r (λ e. left ≡ swap_remove es place e) → IsPermutation (seen es) ((key, x) ∷ seen left)
+taken_by_place es left place key x is None at entries =
+    absurd (none-some (key, x) (ap (option_map (λ (g : Vec ℕ × Set). (g.0.items, g.1))) at ∙ sym (slice_get-map (λ (g : Vec ℕ × Set). (g.0.items, g.1)) es place) ∙ is))
+taken_by_place es left place key x is (Some e) at entries = subst (λ l. IsPermutation (seen es) ((key, x) ∷ seen l)) (sym entries) (taken_at es place key x e (sym at) is)
 
 -- ---- how many are left
 

@@ -4,6 +4,8 @@ pub mod Causes
 pub mod Changes
 pub mod Answered
 pub mod Gone
+pub mod AtPlace
+pub mod Limited
 pub mod Attributed
 pub mod Removed
 pub mod Deleted

@@ -17,7 +17,7 @@ use Rattle.vs_defs.specs.Bytes.{Bytes, same_name}
 use Rattle.vs_defs.specs.Store as model
 use Rattle.vs_defs.specs.Store.{Contents, Store, lookup_set, set_of, plain, member_count}
 use Rattle.vs_defs.proofs.Keys.{same_is}
-use Rattle.vs_set.proofs.Members.{none_is}
+use Rattle.vs_laws.proofs.Options.{none_is}
 use Rattle.vs_store.specs.Places.{IsSetAt}
 
 abbrev pub Entries : Type 0
