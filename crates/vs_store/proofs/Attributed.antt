@@ -65,4 +65,4 @@ attributes s key name text p x y at good there free given fine =
 pub refuses_attribute : (s : Store Set) (key name text : Bytes) (p : ℕ) (x : Set) → IsSetAt key p s x → is_member name x.contents.members ≡ true → (result : Result Answer Cause) (e : Cause)
     → IsErrAnd result (λ y. y ≡ e) → (e ≡ ChangeLimit s.changes) × (s.limits.changes ≤ s.changes) → StoreDoes s (request.Vsetattr key name text) [] (outcome_of result) s
 refuses_attribute s key name text p x at there result e gives h =
-    refuses-limited s (request.Vsetattr key name text) result e gives h (ap (in_set name) (plain_set s key (Some x) at.of_key) ∙ there) refl
+    refuses-limited s (request.Vsetattr key name text) [] result e gives h (ap (in_set name) (plain_set s key (Some x) at.of_key) ∙ there) refl

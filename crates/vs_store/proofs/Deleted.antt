@@ -1,10 +1,12 @@
 -- DEL: what it makes of the store, where a key is there and where none is.
 use Rattle.std.proofs.Common.{◌≡◌, ℕ, ◌+◌, ◌<◌, ◌≤◌, Bool, true, false, cond, List, [], ◌∷◌, length, map, refl, sym, ap, ◌∙◌, subst, arith, pos}
-use Rattle.std.specs.Prelude.{Option, Some, None, IfSome, All, not, is_some, option_map, sum_by, count_by}
+use Rattle.std.specs.Result.{IsErrAnd}
+use Rattle.std.specs.Prelude.{Result, Option, Some, None, IfSome, All, not, is_some, option_map, sum_by, count_by}
 use Rattle.std.specs.List.{list_any}
 use Rattle.std.proofs.lemmas.List.Elements.{All-filter}
 use Rattle.std.proofs.lemmas.List.Filters.{length-filter_both}
 use Rattle.std.proofs.lemmas.List.Sums.{length-filter, sum_by-cons}
+use Rattle.vs_defs.specs.Answers.{Answers}
 use Rattle.vs_defs.specs.Bytes.{Bytes, listed}
 use Rattle.vs_defs.specs.Good.{Good, GoodStore}
 use Rattle.vs_defs.specs.Refuse.{store_refusal, is_change, has_key}
@@ -12,7 +14,11 @@ use Rattle.vs_defs.specs.Request as request
 use Rattle.vs_defs.specs.Step.{wiring_at}
 use Rattle.vs_defs.specs.Store.{Contents, Set, Store, Wiring, AnswerAlike, HasKeysOnce, lookup_set, without_keys, set_of, plain}
 use Rattle.vs_defs.proofs.Keys.{plain_at}
-use Rattle.vs_thread_defs.specs.Machine.{StoreChanges}
+use Rattle.vs_thread_defs.specs.Machine.{StoreChanges, StoreDoes}
+use Rattle.vs_command.specs.Outcomes.{outcome_of}
+use Rattle.vs_command.specs.declared.answer.Answer.{Answer}
+use Rattle.vs_command.specs.declared.refusal.Refusal.{Refusal as Cause}
+use Rattle.vs_command.specs.declared.refusal.Refusal.TheVariants.{ChangeLimit}
 use Rattle.vs_set.specs.Kept.{IsSound}
 use Rattle.vs_store.specs.Gone.{AreGone}
 use Rattle.vs_store.specs.Kept.{IsKept}
@@ -20,6 +26,7 @@ use Rattle.vs_store.proofs.Causes.{change-limited, limit-free, unchanged-free}
 use Rattle.vs_store.proofs.Counted.{has_plain}
 use Rattle.vs_store.proofs.Edits.{once-map}
 use Rattle.vs_store.proofs.Gone.{all_alike, lookup_without}
+use Rattle.vs_store.proofs.Limited.{refuses-limited}
 use Rattle.vs_store.proofs.Sets.{bare, members_in}
 
 -- ---- whether a key is there
@@ -109,3 +116,13 @@ module _ (s : Store Set) (keys : List Bytes) (sets : List (Bytes × Set)) (gone 
     set_within = all_left (λ (x : Set). length x.contents.members ≤ s.limits.set) kept.set_within;
     changes_within = changes;
   }
+
+-- where none is there, nothing changes
+pub deletes-none : (s : Store Set) (keys : List Bytes) → list_any (has s) keys ≡ false → Answers s (request.Del keys) [] (request.Int (pos 0))
+deletes-none s keys none =
+    let still : is_change (plain s) (request.Del keys) ≡ false = deletes_some s keys ∙ none in
+    record { unrefused = unchanged-free (plain s) (request.Del keys) still; changes_nothing = still; answer_is = refl }
+
+pub refuses-deletion : (s : Store Set) (keys : List Bytes) → list_any (has s) keys ≡ true → (result : Result Answer Cause) (e : Cause) → IsErrAnd result (λ y. y ≡ e) → (e ≡ ChangeLimit s.changes) × (s.limits.changes ≤ s.changes)
+    → StoreDoes s (request.Del keys) [] (outcome_of result) s
+refuses-deletion s keys some result e gives h = refuses-limited s (request.Del keys) [] result e gives h (deletes_some s keys ∙ some) refl

@@ -1,6 +1,7 @@
 -- VREM: what it makes of the store, where others are left in the set and where the set goes.
 use Rattle.std.proofs.Common.{◌≡◌, ℕ, ◌+◌, ◌-◌, ◌<◌, ◌≤◌, Bool, true, false, cond, List, [], ◌∷◌, length, map, refl, sym, ap, ◌∙◌, subst, arith, inl, inr, IsPermutation}
-use Rattle.std.specs.Prelude.{◌≢◌, ◌⊎◌, Option, Some, None, IfSome, All, option_map, slice_get, slice_set, sum_by}
+use Rattle.std.specs.Result.{IsErrAnd}
+use Rattle.std.specs.Prelude.{◌≢◌, ◌⊎◌, Result, Option, Some, None, IfSome, All, option_map, slice_get, slice_set, sum_by}
 use Rattle.std.proofs.lemmas.List.{length-map}
 use Rattle.std.proofs.lemmas.List.Sorted.{IsPermutation-map}
 use Rattle.std.proofs.lemmas.List.{length-take-le}
@@ -13,7 +14,11 @@ use Rattle.vs_defs.specs.Refuse.{is_change, in_set}
 use Rattle.vs_defs.specs.Request as request
 use Rattle.vs_defs.specs.Step.{OthersKeep, TakesOut}
 use Rattle.vs_defs.specs.Store.{Member, Contents, Set, Store, AnswerAlike, HasKeysOnce, with_option, without_member, put_last_at, all_but_last, is_of_name, is_member, set_of, plain}
-use Rattle.vs_thread_defs.specs.Machine.{StoreChanges}
+use Rattle.vs_thread_defs.specs.Machine.{StoreChanges, StoreDoes}
+use Rattle.vs_command.specs.Outcomes.{outcome_of}
+use Rattle.vs_command.specs.declared.answer.Answer.{Answer}
+use Rattle.vs_command.specs.declared.refusal.Refusal.{Refusal as Cause}
+use Rattle.vs_command.specs.declared.refusal.Refusal.TheVariants.{ChangeLimit}
 use Rattle.vs_set.specs.Changed.{RemovesMember}
 use Rattle.vs_set.specs.Kept.{IsSound}
 use Rattle.vs_store.specs.Kept.{IsKept}
@@ -23,6 +28,7 @@ use Rattle.vs_store.proofs.Causes.{change-limited, limit-free}
 use Rattle.vs_store.proofs.Changes.{plain_set, has_some, written_at, found-written, wirings-written, alike-written, keys-written, good-written, kept-written}
 use Rattle.vs_store.proofs.Edits.{at-place, differs, once-map}
 use Rattle.vs_store.proofs.Gone.{popped_once, popped_others, popped_none, popped_alike, popped_long, popped_all, popped_sum}
+use Rattle.vs_store.proofs.Limited.{refuses-limited}
 use Rattle.vs_store.proofs.Sets.{bare, members_in}
 
 -- ---- how many members are left
@@ -166,3 +172,8 @@ kept-removed s key name p x at kept sets number (inr others) changes left less =
     let few = at-place (λ (e : Bytes × Set). length e.1.contents.members ≤ s.limits.set) s.sets p (key, x) kept.set_within at.at in
     subst (λ l. IsKept (record { sets = l; changes = number; limits = s.limits }) left) (sym others.sets_are)
     (kept-written s p key x at kept.good y number kept others.sound (omega (arith, long, others.several)) (omega (arith, long, few)) left (omega (arith, long, less)) (omega (arith, less, kept.all_within)) changes)
+
+-- for the limit of changes alone
+pub refuses-removal : (s : Store Set) (key name : Bytes) (p : ℕ) (x : Set) → IsSetAt key p s x → is_member name x.contents.members ≡ true → (result : Result Answer Cause) (e : Cause) → IsErrAnd result (λ y. y ≡ e)
+    → (e ≡ ChangeLimit s.changes) × (s.limits.changes ≤ s.changes) → StoreDoes s (request.Vrem key name) [] (outcome_of result) s
+refuses-removal s key name p x at there result e gives h = refuses-limited s (request.Vrem key name) [] result e gives h (changes_at s key name p x at there) refl

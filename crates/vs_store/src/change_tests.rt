@@ -242,7 +242,12 @@ fn sets_of_their_own(rt: HostRuntime) -> Result<(), Fail> {
     check_nearest(&rt, alloc, &mut store, "VSIM k VALUES 2 1 1", b"a")?;
     check_nearest(&rt, alloc, &mut store, "VSIM l VALUES 2 1 1", b"b")?;
     check_nearest(&rt, alloc, &mut store, "VSIM m VALUES 2 1 1", b"c")?;
-    check_on(&rt, alloc, &mut store, &[("VREM k a", "1"), ("VREM l b", "1")])?;
+    check_on(
+        &rt,
+        alloc,
+        &mut store,
+        &[("VREM k a", "1"), ("VREM l b", "1")],
+    )?;
     check_nearest(&rt, alloc, &mut store, "VSIM k VALUES 2 1 1", b"b")?;
     check_nearest(&rt, alloc, &mut store, "VSIM l VALUES 2 1 1", b"a")?;
     Ok(())

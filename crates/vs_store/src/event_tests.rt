@@ -82,10 +82,7 @@ fn store_of_two(rt: &impl Abort, alloc: Global, limits: Limits) -> Result<Store,
     requires { AreUsual (limits_seen limits) }
 {
     let mut store = Store::new(alloc, limits);
-    let lines = [
-        ("VADD k VALUES 1 1 a", "1"),
-        ("VADD k VALUES 1 -1 b", "1"),
-    ];
+    let lines = [("VADD k VALUES 1 1 a", "1"), ("VADD k VALUES 1 -1 b", "1")];
     check_on(rt, alloc, &mut store, &lines)?;
     Ok(store)
 }
@@ -128,7 +125,11 @@ fn refused_behind<L: Ledger>(
     }
 }
 
-fn stale_drafts_by<L: Ledger>(rt: &impl Abort, alloc: Global, blank: Blank) -> Result<(), AllocError>
+fn stale_drafts_by<L: Ledger>(
+    rt: &impl Abort,
+    alloc: Global,
+    blank: Blank,
+) -> Result<(), AllocError>
     requires name { blank.name ≡ L.name }
     requires parts { blank.parts ≡ L.parts }
     requires some { 0 < L.parts }
@@ -136,21 +137,39 @@ fn stale_drafts_by<L: Ledger>(rt: &impl Abort, alloc: Global, blank: Blank) -> R
     let mut reads = Steps::<L>::new(blank);
     let usual = Limits::usual();
     let removed = [("VREM k a", "1")];
-    assert_eq!(rt; stale_behind(rt, alloc, usual, &removed, &mut reads)?, (3, false));
+    assert_eq!(rt;
+        stale_behind(rt, alloc, usual, &removed, &mut reads)?,
+        (3, false)
+    );
     let replaced = [("VADD k VALUES 1 -1 a", "0")];
-    assert_eq!(rt; stale_behind(rt, alloc, usual, &replaced, &mut reads)?, (3, false));
+    assert_eq!(rt;
+        stale_behind(rt, alloc, usual, &replaced, &mut reads)?,
+        (3, false)
+    );
     let taken = [("VADD k VALUES 1 1 x", "1")];
-    assert_eq!(rt; stale_behind(rt, alloc, usual, &taken, &mut reads)?, (1, true));
+    assert_eq!(rt;
+        stale_behind(rt, alloc, usual, &taken, &mut reads)?,
+        (1, true)
+    );
     let gone = [("DEL k", "1")];
-    assert_eq!(rt; stale_behind(rt, alloc, usual, &gone, &mut reads)?, (0, false));
+    assert_eq!(rt;
+        stale_behind(rt, alloc, usual, &gone, &mut reads)?,
+        (0, false)
+    );
     let made_anew = [
         ("DEL k", "1"),
         ("VADD k VALUES 1 1 a", "1"),
         ("VADD k VALUES 1 -1 b", "1"),
     ];
-    assert_eq!(rt; stale_behind(rt, alloc, usual, &made_anew, &mut reads)?, (4, false));
+    assert_eq!(rt;
+        stale_behind(rt, alloc, usual, &made_anew, &mut reads)?,
+        (4, false)
+    );
     let removed_and_taken = [("VREM k a", "1"), ("VADD k VALUES 1 1 x", "1")];
-    assert_eq!(rt; stale_behind(rt, alloc, usual, &removed_and_taken, &mut reads)?, (3, true));
+    assert_eq!(rt;
+        stale_behind(rt, alloc, usual, &removed_and_taken, &mut reads)?,
+        (3, true)
+    );
     Ok(())
 }
 
@@ -169,7 +188,11 @@ fn limits_with(set: u32, all: u32, changes: u64) -> Limits
     }
 }
 
-fn refused_drafts_by<L: Ledger>(rt: &impl Abort, alloc: Global, blank: Blank) -> Result<(), AllocError>
+fn refused_drafts_by<L: Ledger>(
+    rt: &impl Abort,
+    alloc: Global,
+    blank: Blank,
+) -> Result<(), AllocError>
     requires name { blank.name ≡ L.name }
     requires parts { blank.parts ≡ L.parts }
     requires some { 0 < L.parts }

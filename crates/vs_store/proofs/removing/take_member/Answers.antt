@@ -1,6 +1,8 @@
-use Rattle.std.proofs.Common.{◌≡◌, ◌<◌, length, sym, ap, ◌∙◌, subst, arith, inl, inr}
+use Rattle.std.proofs.Common.{◌≡◌, ◌<◌, List, [], ◌∷◌, true, length, sym, ap, ◌∙◌, subst, arith, inl, inr}
 use Rattle.std.specs.Prelude.{Result, Ok, Err, OnOk, OnErr}
-use Rattle.vs_defs.specs.Store.{Set, is_member}
+use Rattle.std.proofs.lemmas.Bool.{false≢true}
+use Rattle.vs_defs.specs.Bytes.{Bytes}
+use Rattle.vs_defs.specs.Store.{Member, Set, is_member}
 use Rattle.vs_set.specs.Changed.{RemovesMember}
 use Rattle.vs_set.specs.Kept.{IsSound}
 use Rattle.vs_store.specs.Gone.{seen}
@@ -12,6 +14,10 @@ use Rattle.vs_store.proofs.removing.take_member.Goals as goal
 on_ok : {A E P Q R : Type 0} (r : Result A E) → (P → Q → R) → OnOk r P → OnOk r Q → OnOk r R
 on_ok (Ok a) f p q = f p q
 on_ok (Err e) f p q = tt
+
+has_some : (name : Bytes) (ms : List Member) → is_member name ms ≡ true → 0 < length ms
+has_some name [] there = absurd (false≢true there)
+has_some name (m ∷ ms) there = omega arith
 
 on_err : {A E P Q : Type 0} (r : Result A E) → (P → Q) → OnErr r P → OnErr r Q
 on_err (Ok a) f p = tt
@@ -41,20 +47,23 @@ returns-clause-taken c =
     let name = c.args.name.now in
     let z = c.index_mut.result.now in
     let y = c.remove_from.new.set in
+    let there = c.requires.there in
+    let own = value_at es c.args.place there.0 there.1 z there.2 c.index_mut.ensures.value in
+    let some = has_some name there.1.contents.members there.3 in
     on_ok c.remove_from.result (λ (removed : RemovesMember name c.args.number z y) (sound : IsSound y). λ key x at.
-        let here = value_at es c.args.place key x z at c.index_mut.ensures.value in
-        let first = value_at es c.args.place key x c.index.result.now at c.index.ensures in
-        let removes = subst (λ u. RemovesMember name c.args.number u y) here removed in
-        inr (record {
-          left = y;
-          several = omega (arith, ap (λ (u : Set). length u.contents.members) first, c.count.ensures.value, c.if-count-eq1.false);
-          removes = removes;
-          sound = sound;
-          sets_are = written es c.args.place key x y at;
-        })) c.remove_from.ensures.removed c.remove_from.ensures.sound
+    let here = value_at es c.args.place key x z at c.index_mut.ensures.value in
+    let first = value_at es c.args.place key x c.index.result.now at c.index.ensures in
+    let removes = subst (λ u. RemovesMember name c.args.number u y) here removed in
+    inr (record {
+      left = y;
+      several = omega (arith, ap (λ (u : Set). length u.contents.members) own, ap (λ (u : Set). length u.contents.members) here, some, ap (λ (u : Set). length u.contents.members) first, c.count.ensures.value, c.if-count-eq1.false);
+      removes = removes;
+      sound = sound;
+      sets_are = written es c.args.place key x y at;
+    })) c.remove_from.ensures.removed c.remove_from.ensures.sound
 
 pub returns-clause-err : goal.returns-clause-err
 returns-clause-err c =
     let there = c.requires.there in
     on_err c.remove_from.result (λ (same : c.remove_from.new.set ≡ c.index_mut.result.now).
-        rewritten c.args.sets.now.entries c.args.place there.0 there.1 c.remove_from.new.set c.index_mut.result.now there.2 c.index_mut.ensures.value same) c.remove_from.ensures.err
+    rewritten c.args.sets.now.entries c.args.place there.0 there.1 c.remove_from.new.set c.index_mut.result.now there.2 c.index_mut.ensures.value same) c.remove_from.ensures.err

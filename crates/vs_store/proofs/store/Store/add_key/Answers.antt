@@ -71,7 +71,7 @@ invariant_of-self-2 c =
     let number : n ≡ s.changes + 1 = c.in_ok-number.ensures.number ∙ ap (λ (t : Store Set). t.changes + 1) (sym c.self.view_is) in
     subst (λ l. IsKept (record { sets = l; changes = n; limits = s.limits }) (i.members + 1)) (sym seen)
     (kept-put s add.key absent c.self.invariant.good y n c.self.invariant c.in_ok-set.ensures.sound (omega (arith, one_member)) (omega (arith, one_member, c.self.invariant.limits.set.0)) (i.members + 1)
-        (omega (arith, one_member)) (omega (arith, room.all, plain_count s, c.self.invariant.counted)) (omega (arith, room.keys, length-map s.sets bare)) (omega (arith, number, room.changes)))
+    (omega (arith, one_member)) (omega (arith, room.all, plain_count s, c.self.invariant.counted)) (omega (arith, room.keys, length-map s.sets bare)) (omega (arith, number, room.changes)))
 
 pub returns-clause-does : goal.returns-clause-does
 returns-clause-does c =

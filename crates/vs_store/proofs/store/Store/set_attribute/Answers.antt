@@ -60,8 +60,8 @@ invariant_of-self-2 c =
     let few = at-place (λ (e : Bytes × Set). length e.1.contents.members ≤ s.limits.set) s.sets c.in-Some.place (key, x) c.self.invariant.set_within at.at in
     subst (λ l. IsKept (record { sets = l; changes = n; limits = s.limits }) i.members) (sym (written i.sets.entries c.in-Some.place key x y at.at))
     (kept-written s c.in-Some.place key x at c.self.invariant.good y n c.self.invariant c.in_ok-give.ensures.sound (omega (arith, long, same, has_some s c.in-Some.place key x at c.self.invariant.good))
-        (omega (arith, long, same, few)) i.members (omega (arith, long, same)) c.self.invariant.all_within
-        (omega (arith, c.in_ok-number.ensures.ok.0, c.in_ok-number.ensures.ok.1, ap (λ (t : Store Set). t.limits.changes) c.self.view_is)))
+    (omega (arith, long, same, few)) i.members (omega (arith, long, same)) c.self.invariant.all_within
+    (omega (arith, c.in_ok-number.ensures.ok.0, c.in_ok-number.ensures.ok.1, ap (λ (t : Store Set). t.limits.changes) c.self.view_is)))
 
 pub returns-clause-does : goal.returns-clause-does
 returns-clause-does c =
