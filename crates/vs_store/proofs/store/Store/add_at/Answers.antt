@@ -1,4 +1,4 @@
-use Rattle.std.proofs.Common.{◌≡◌, ℕ, ◌+◌, ◌<◌, ◌≤◌, ◌∷◌, [], Bool, true, false, not, List, length, map, refl, sym, ap, ◌∙◌, subst, arith, inl}
+use Rattle.std.proofs.Common.{◌≡◌, ℕ, ◌+◌, ◌≤◌, ◌∷◌, [], false, not, length, map, sym, ap, ◌∙◌, subst, arith, inl}
 use Rattle.std.specs.Prelude.{Some, None}
 use Rattle.std.proofs.lemmas.List.{length-map}
 use Rattle.std.proofs.lemmas.Option.{slice_get_within}
@@ -7,10 +7,9 @@ use Rattle.vs_defs.specs.Bytes.{Bytes}
 use Rattle.vs_defs.specs.Draws.{level_of}
 use Rattle.vs_defs.specs.Refuse.{store_refusal}
 use Rattle.vs_defs.specs.Request as request
-use Rattle.vs_defs.specs.Store.{Set, Store, set_of, plain, is_member, member_count}
+use Rattle.vs_defs.specs.Store.{Set, Store, plain, is_member}
 use Rattle.vs_thread_defs.specs.Machine.{StoreChanges}
 use Rattle.vs_set.specs.Changed.{AddsMember}
-use Rattle.vs_set.specs.Kept.{one_if}
 use Rattle.vs_bits.specs.Requests.{add_of}
 use Rattle.vs_store.specs.Causes.{HasRoom}
 use Rattle.vs_store.specs.Kept.{IsKept}
@@ -91,14 +90,14 @@ invariant_of-self-2 c =
     let first = value_at i.sets.entries c.args.place add.key x c.index.result.now at.at c.index.ensures in
     let room : is_member add.name x.contents.members ≡ false → HasRoom (plain s) (length x.contents.members)
     = λ f. subst (λ t. HasRoom (plain t) (length x.contents.members)) (sym c.self.view_is)
-        (subst (λ (z : Set). HasRoom (plain c.args.self.now) (length z.contents.members)) first
-            (c.in_ok-number.ensures.room (ap (λ (z : Set). is_member add.name z.contents.members) first ∙ f))) in
+    (subst (λ (z : Set). HasRoom (plain c.args.self.now) (length z.contents.members)) first
+    (c.in_ok-number.ensures.room (ap (λ (z : Set). is_member add.name z.contents.members) first ∙ f))) in
     let fits = within (plain s) (length x.contents.members) i.members (is_member add.name x.contents.members) room (plain_count s ∙ sym c.self.invariant.counted)
-        (at-place (λ (e : Bytes × Set). length e.1.contents.members ≤ s.limits.set) s.sets c.args.place (add.key, x) c.self.invariant.set_within at.at) c.self.invariant.all_within in
+    (at-place (λ (e : Bytes × Set). length e.1.contents.members ≤ s.limits.set) s.sets c.args.place (add.key, x) c.self.invariant.set_within at.at) c.self.invariant.all_within in
     subst (λ l. IsKept (record { sets = l; changes = n; limits = s.limits }) (i.members + c.from.result)) (sym (written i.sets.entries c.args.place add.key x y at.at))
     (kept-written s c.args.place add.key x at c.self.invariant.good y n c.self.invariant c.in_ok-is_new.ensures.sound (omega (arith, long, some)) (omega (arith, long, fits.0)) (i.members + c.from.result)
-        (omega (arith, long, more)) (omega (arith, more, fits.1))
-        (omega (arith, number, c.in_ok-number.ensures.changes, ap (λ (t : Store Set). t.changes) c.self.view_is, ap (λ (t : Store Set). t.limits.changes) c.self.view_is)))
+    (omega (arith, long, more)) (omega (arith, more, fits.1))
+    (omega (arith, number, c.in_ok-number.ensures.changes, ap (λ (t : Store Set). t.changes) c.self.view_is, ap (λ (t : Store Set). t.limits.changes) c.self.view_is)))
 
 pub returns-clause-does : goal.returns-clause-does
 returns-clause-does c =
@@ -123,4 +122,4 @@ returns-clause-does c =
     let new : Store Set = store_seen (set_value_at i.sets.entries c.args.place y) n i.limits in
     let made : written_at s c.args.place add.key y (s.changes + 1) ≡ new = λ j. record { sets = sym (written i.sets.entries c.args.place add.key x y at.at) j; changes = sym number j; limits = s.limits } in
     inl (subst (λ b. StoreChanges c.args.self.now r words b new None) (sym answer)
-        (subst (λ t. StoreChanges t r words a new None) c.self.view_is (subst (λ u. StoreChanges s r words a u None) made done)))
+    (subst (λ t. StoreChanges t r words a new None) c.self.view_is (subst (λ u. StoreChanges s r words a u None) made done)))
