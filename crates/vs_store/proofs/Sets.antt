@@ -1,6 +1,6 @@
 -- The entries that are kept, and the sets by their keys that contracts see: what is found, where a key stands, what an edit of the entries is
 -- for the sets; and the same sets without their links.
-use Rattle.std.proofs.Common.{◌≡◌, ℕ, ◌+◌, ◌<◌, zero, suc, Bool, true, List, [], ◌∷◌, ◌++◌, cond, length, map, get_or, position, refl, sym, ap, ◌∙◌, subst, arith}
+use Rattle.std.proofs.Common.{◌≡◌, ℕ, ◌<◌, zero, suc, Bool, true, List, [], ◌∷◌, ◌++◌, cond, length, map, get_or, position, refl, sym, ap, ◌∙◌, subst, arith}
 use Rattle.std.specs.Prelude.{Option, Some, None, IfSome, is_some, option_map, nat_eq, slice_get, slice_set, sum_by}
 use Rattle.std.specs.Map.{lookup, keys_of, values_of}
 use Rattle.std.specs.Global.{Vec}

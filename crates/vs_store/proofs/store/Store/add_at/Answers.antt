@@ -1,4 +1,4 @@
-use Rattle.std.proofs.Common.{◌≡◌, ℕ, ◌+◌, ◌<◌, ◌≤◌, ◌∷◌, [], Bool, true, false, not, List, length, map, refl, sym, ap, ◌∙◌, subst, arith, inl}
+use Rattle.std.proofs.Common.{◌≡◌, ℕ, ◌+◌, ◌≤◌, ◌∷◌, [], false, not, length, map, sym, ap, ◌∙◌, subst, arith, inl}
 use Rattle.std.specs.Prelude.{Some, None}
 use Rattle.std.proofs.lemmas.List.{length-map}
 use Rattle.std.proofs.lemmas.Option.{slice_get_within}
@@ -7,10 +7,9 @@ use Rattle.vs_defs.specs.Bytes.{Bytes}
 use Rattle.vs_defs.specs.Draws.{level_of}
 use Rattle.vs_defs.specs.Refuse.{store_refusal}
 use Rattle.vs_defs.specs.Request as request
-use Rattle.vs_defs.specs.Store.{Set, Store, set_of, plain, is_member, member_count}
+use Rattle.vs_defs.specs.Store.{Set, Store, plain, is_member}
 use Rattle.vs_thread_defs.specs.Machine.{StoreChanges}
 use Rattle.vs_set.specs.Changed.{AddsMember}
-use Rattle.vs_set.specs.Kept.{one_if}
 use Rattle.vs_bits.specs.Requests.{add_of}
 use Rattle.vs_store.specs.Causes.{HasRoom}
 use Rattle.vs_store.specs.Kept.{IsKept}

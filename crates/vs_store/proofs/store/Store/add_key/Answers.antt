@@ -1,4 +1,4 @@
-use Rattle.std.proofs.Common.{◌≡◌, ℕ, ◌+◌, ◌<◌, ◌≤◌, ◌∷◌, ◌++◌, [], Bool, true, false, List, length, map, refl, sym, ap, ◌∙◌, subst, arith, inl}
+use Rattle.std.proofs.Common.{◌≡◌, ℕ, ◌+◌, ◌∷◌, ◌++◌, [], Bool, true, false, length, map, sym, ap, ◌∙◌, subst, arith, inl}
 use Rattle.std.specs.Prelude.{Result, Ok, Err, None, OnOk, OnErr, nat_eq}
 use Rattle.std.specs.Cmp.Lexicographic.{pointwise}
 use Rattle.std.specs.Global.{Vec}
@@ -9,14 +9,13 @@ use Rattle.indexmap.specs.IndexMap.{insert_entry}
 use Rattle.vs_defs.specs.Bytes.{Bytes}
 use Rattle.vs_defs.specs.Draws.{level_of}
 use Rattle.vs_defs.specs.PlainStep.{new_set, one}
-use Rattle.vs_defs.specs.Refuse.{store_refusal}
 use Rattle.vs_defs.specs.Request as request
 use Rattle.vs_defs.specs.Store.{Contents, Set, Store, set_of, lookup_set, plain}
 use Rattle.vs_thread_defs.specs.Machine.{StoreChanges}
 use Rattle.vs_bits.specs.Requests.{add_of}
 use Rattle.vs_store.specs.Causes.{IsCause, HasRoomForKey}
 use Rattle.vs_store.specs.Kept.{IsKept}
-use Rattle.vs_store.specs.Seen.{store_seen, limits_seen}
+use Rattle.vs_store.specs.Seen.{store_seen}
 use Rattle.vs_store.proofs.Additions.{adds-key}
 use Rattle.vs_store.proofs.Causes.{refuses-by, absent-refusal, has-room-for-key}
 use Rattle.vs_store.proofs.Changes.{plain_set, put_last, kept-put}
