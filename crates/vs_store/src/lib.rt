@@ -8,6 +8,8 @@ mod committing;
 mod counting;
 mod drafting;
 mod error;
+#[cfg(test)]
+mod event_tests;
 mod keys;
 mod limits;
 mod looked;
@@ -17,8 +19,6 @@ mod ready;
 mod removing;
 mod room;
 mod store;
-#[cfg(test)]
-mod event_tests;
 #[cfg(test)]
 mod tests;
 
