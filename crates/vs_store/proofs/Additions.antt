@@ -1,10 +1,9 @@
 -- VADD: what it makes of the store, of a set that is there and at a new key.
-use Rattle.std.proofs.Common.{◌≡◌, ℕ, ◌+◌, ◌<◌, ◌≤◌, Bool, true, false, cond, List, [], ◌∷◌, ◌++◌, length, refl, sym, ap, ◌∙◌, subst, arith, length-append}
-use Rattle.std.specs.Prelude.{Option, Some, None, ℤ, pos, is_some, not, option_map, MatchOption}
+use Rattle.std.proofs.Common.{◌≡◌, ℕ, ◌+◌, ◌<◌, ◌≤◌, Bool, true, false, cond, List, [], ◌∷◌, length, refl, sym, ap, ◌∙◌, subst, arith, length-append}
+use Rattle.std.specs.Prelude.{Option, Some, None, ℤ, pos, is_some, not, MatchOption}
 use Rattle.std.specs.Int.{from_bool}
 use mir.Syntax.{w64}
 use mir.Val.{to_z, of_z}
-use Rattle.vs_defs.specs.Bytes.{Bytes}
 use Rattle.vs_defs.specs.Draws.{level_of}
 use Rattle.vs_defs.specs.Good.{Good, GoodStore}
 use Rattle.vs_defs.specs.PlainStep.{added, added_to, added_member, new_set, one}

@@ -1,4 +1,4 @@
-use Rattle.std.proofs.Common.{◌≡◌, ℕ, ◌+◌, true, false, length, sym, ap, ◌∙◌, subst}
+use Rattle.std.proofs.Common.{◌≡◌, ℕ, ◌+◌, true, false, sym, ap, ◌∙◌, subst}
 use Rattle.std.specs.Prelude.{Result, Ok, Err, Option, Some, None, IfErr, OnOk}
 use Rattle.std.specs.Option.{option_or}
 use Rattle.std.specs.Result.{IsErrAnd}
@@ -54,7 +54,7 @@ returns-else-has-clause-unrefused c =
     let new : is_member add.name x.contents.members ≡ false = ap (λ n. is_member n x.contents.members) (sym c.as_slice.ensures) ∙ sym c.has.ensures ∙ c.if-has.false in
     roomy (plain s) c.count.result (store_refusal (plain s) (request.Vadd add)) c.number_of_member.result
     (new-refusal (plain s) add x.contents (plain_set s add.key (Some x) c.requires.at) c.in_ok-check_fit.ensures.fits new
-        ∙ ap (λ n. option_or (no_room (plain s) n) (limited (plain s))) (sym c.count.ensures.value))
+    ∙ ap (λ n. option_or (no_room (plain s) n) (limited (plain s))) (sym c.count.ensures.value))
     c.number_of_member.ensures.room
 
 pub returns-else-has-clause-refused : goal.returns-else-has-clause-refused
