@@ -1,17 +1,16 @@
 -- What a preparation in the set of a draft gives is ready there.
-use Rattle.std.proofs.Common.{◌≡◌, ℕ, ◌+◌, ◌-◌, ◌<◌, ◌≤◌, Bool, true, false, not, cond, List, [], ◌∷◌, length, map, refl, sym, ap, ◌∙◌, subst, is_some, true≢false}
+use Rattle.std.proofs.Common.{◌≡◌, ℕ, ◌+◌, ◌-◌, ◌<◌, ◌≤◌, Bool, true, false, not, cond, List, [], ◌∷◌, length, map, refl, sym, ap, ◌∙◌, subst}
 use Rattle.std.specs.Prelude.{Option, Some, None, ◌==◌, All}
 use Rattle.std.proofs.lemmas.Bool.Decides.{Decides-eqb}
 use Rattle.std.proofs.lemmas.List.{length-map, length-reverse}
-use Rattle.std.proofs.lemmas.Option.{none-some, same_Some}
+use Rattle.std.proofs.lemmas.Option.{none-some}
 use Rattle.vs_defs.specs.Vector.{Vector}
 use Rattle.vs_defs.specs.Words.{bits_of_words}
 use Rattle.vs_defs.specs.Draws.{level_of}
 use Rattle.vs_defs.specs.Insertion.{IsChosen}
 use Rattle.vs_defs.specs.Refuse.{first_cause, wrong_dimension, wrong_m}
 use Rattle.vs_defs.specs.Request as request
-use Rattle.vs_defs.specs.Stale.{stale_by}
-use Rattle.vs_defs.specs.Store.{Contents, Set, Store, set_of}
+use Rattle.vs_defs.specs.Store.{Contents, Set}
 use Rattle.vs_thread_defs.specs.Core as core
 use Rattle.vs_thread_defs.specs.Core.{IsDraftable, Suits}
 use Rattle.vs_bits.specs.declared.add.Add.{Add}
@@ -22,7 +21,7 @@ use Rattle.vs_insert.specs.declared.draft.Draft.{Draft}
 use Rattle.vs_insert.specs.Chosen.{AreChosenNames}
 use Rattle.vs_insert.specs.Drafts.{names_down}
 use Rattle.vs_set.specs.Drafted.{IsDraft}
-use Rattle.vs_store.specs.Drafts.{IsPrepared, WasReadyIn, MayCommitIn, MayCommit, ready_seen, chosen_seen}
+use Rattle.vs_store.specs.Drafts.{IsPrepared, WasReadyIn, MayCommitIn, ready_seen, chosen_seen}
 use Rattle.vs_store.proofs.Layers.{chosen_there, have_bits, names_same}
 
 dim_by : (b : Bool) (r : request.Refusal) (rest : List (Bool × request.Refusal)) → first_cause ((not b, r) ∷ rest) ≡ None → b ≡ true
@@ -62,11 +61,3 @@ prepared add word x body level draft draftable bits is_level d =
         lists = chosen_there r.chosen x draft.level chosen all_bits;
       };
     }
-
--- in the store of the draft it may be committed at once
-pub may_at_once : (s : Store Set) (d : core.Drafting) (r : core.Ready) → set_of d.add.key s ≡ Some d.set → IsPrepared d r → MayCommit s r
-may_at_once s d r at p = λ now is fresh. subst (λ x. MayCommitIn x r) (same_Some d.set now (sym at ∙ ap (λ (a : request.Add). set_of a.key s) (sym p.add) ∙ is)) p.may
-
--- a stale one may be tried
-pub may_stale : (s : Store Set) (r : core.Ready) → is_some (stale_by r.cut r.add.name (set_of r.add.key s)) ≡ true → MayCommit s r
-may_stale s r stale = λ now is fresh. absurd (true≢false (sym stale ∙ ap (λ o. is_some (stale_by r.cut r.add.name o)) is ∙ ap is_some fresh))
