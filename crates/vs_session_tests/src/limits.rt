@@ -64,7 +64,7 @@ fn a_message_of_more_bytes_is_a_fault(rt: HostRuntime) -> Result<(), Fail> {
 fn addition(alloc: Global, number: usize) -> Result<Text, NoMemory> {
     let mut line = Text::from_slice(alloc, b"VADD|s|VALUES|1|1|m")?;
     push_number(alloc, &mut line, number)?;
-    line.extend_from_slice(b"|SETATTR|{\"n\":")?;
+    line.extend_from_slice(b"|EF|16|SETATTR|{\"n\":")?;
     push_number(alloc, &mut line, number)?;
     line.push(b'}')?;
     Ok(line)
