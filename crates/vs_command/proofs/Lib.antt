@@ -1,5 +1,5 @@
 pub mod Shuffles
+pub mod Displaced
 pub mod Words
 pub mod Steps
 pub mod OptionSteps
-pub mod Stages

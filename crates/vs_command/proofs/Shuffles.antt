@@ -1,6 +1,5 @@
--- Shuffles, turn by turn, and of a list that is made from another.
-use Rattle.std.proofs.Common.{◌≡◌, ℕ, zero, suc, ◌+◌, ◌-◌, ◌<◌, List, [], ◌∷◌, length, get_or, drop, take, map, refl, sym, ap, ◌∙◌, ℤ, pos, negsuc, ◌<ℤ◌, ◌≤ℤ◌, unsigned_abs, min, All, add-one, arith}
-use Rattle.std.proofs.Math.Seq.{drop-cons}
+-- Shuffles of a list that is made from another, and the picks that they are.
+use Rattle.std.proofs.Common.{◌≡◌, ℕ, zero, suc, ◌+◌, ◌-◌, ◌<◌, List, [], ◌∷◌, length, get_or, take, map, refl, sym, ap, ◌∙◌, ℤ, pos, negsuc, ◌<ℤ◌, ◌≤ℤ◌, unsigned_abs, min, All, arith}
 use Rattle.std.proofs.Math.ListN.{get_or-map, set}
 use Rattle.std.proofs.lemmas.List.{map-set, take-map, length-map, length-take}
 use Rattle.std.proofs.lemmas.List.FromFn.{fill_by_all, length-range_with_len, get_or-range_with_len}
@@ -9,12 +8,6 @@ use Rattle.std.specs.List.{swap, range_with_len}
 use Rattle.std.proofs.lemmas.Int.{ints}
 use Rattle.vs_defs.specs.Bytes.{Bytes}
 use Rattle.vs_defs.specs.Draws.{shuffled, place_of, name_at, picks}
-
-pub shuffled_turn : {X : Type 0} (i : ℕ) (xs : List X) (ws : List ℕ) → i < length ws → shuffled i xs (drop i ws) ≡ shuffled (i + 1) (swap xs i (i + place_of (length xs - i) (get_or ws i 0))) (drop (i + 1) ws)
-shuffled_turn i xs ws h = let e : drop i ws ≡ get_or ws i 0 ∷ drop (i + 1) ws = rw add-one (drop-cons ws i 0 h) in rw e refl
-
-pub shuffled_next : {X : Type 0} (n i p : ℕ) (xs ys : List X) (ws : List ℕ) → length xs ≡ n → i < length ws → p ≡ place_of (n - i) (get_or ws i 0) → ys ≡ swap xs i (i + p) → shuffled i xs (drop i ws) ≡ shuffled (i + 1) ys (drop (i + 1) ws)
-shuffled_next n i p xs ys ws count turn place swapped = rw (swapped, place, ← count) (shuffled_turn i xs ws turn)
 
 swap-map : {X Y : Type 0} (f : X → Y) (xs : List X) (i j : ℕ) → swap (map f xs) i j ≡ map f (swap xs i j)
 swap-map f [] i j = refl

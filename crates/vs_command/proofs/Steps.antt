@@ -10,7 +10,7 @@ use Rattle.vs_defs.specs.Bytes.{Bytes}
 use Rattle.vs_defs.specs.Request as model
 use Rattle.vs_defs.specs.Numeral.{sign_of, bit_of, bits_of, is_numeral, Sign}
 use Rattle.vs_defs.specs.Vector.{Vector}
-use Rattle.vs_defs.specs.Read.{Reads, ◌>>=◌, read_component, read_components, read_keys, read_key, word}
+use Rattle.vs_defs.specs.Read.{Reads, ◌>>=◌, read_component, read_components, read_keys, read_key, read_name, read_add_form, read_vector, read_options, find_add_option, no_add_options, read_vadd, word}
 use Rattle.vs_command.proofs.Words.{drop-word, word_at}
 
 -- what is read, behind what was read before
@@ -64,3 +64,8 @@ pub key_refused : (i : ℕ) (ws keys : List Bytes) (w : Bytes) (c : model.Refusa
 key_refused i ws keys w c h at read =
     let here : read_key (word ws i) ≡ Err c = ap read_key (sym (word_at ws i w h at)) ∙ read in
     rw (drop-word ws i h, here) refl
+
+-- a VADD is refused by the first cause in its options, where the words before them fit
+pub addition_refused : (words : List Bytes) (key name : Bytes) (bits : Vector) (c : model.Refusal) → read_key (word words 1) ≡ Ok key → read_add_form (word words 2) ≡ Ok tt → read_vector 1 words ≡ Ok bits → read_name (word words (4 + length bits)) ≡ Ok name
+    → read_options find_add_option no_add_options (5 + length bits) (drop (5 + length bits) words) ≡ Err c → read_vadd words ≡ Err c
+addition_refused words key name bits c k f v n o = rw (k, f, v, n, o) refl

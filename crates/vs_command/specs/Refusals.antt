@@ -1,7 +1,7 @@
 -- The cause that a `Refusal` stands for; want of memory is none, and may come in place of any answer or cause.
 use Rattle.std.specs.Prelude.{Option, Some, None}
 use Rattle.vs_command.specs.declared.refusal.Refusal.{Refusal}
-use Rattle.vs_command.specs.declared.refusal.Refusal.TheVariants.{UnknownCommand, WrongArity, BadKey, BadVectorForm, Fp32, Reduce, BadDimension, ShortVector, BadComponent, BadName, UnknownOption, MissingValue, Quantiser, BadEf, BadM, LongAttribute, BadCount, Epsilon, BadFilterEf, LongFilter, FilterSyntax, FilterTooDeep, Raw, NotBuilt, NoSuchKey, NoSuchElement, WrongDimension, WrongM, FullSet, FullKeys, FullAll, ChangeLimit, NoMemory}
+use Rattle.vs_command.specs.declared.refusal.Refusal.TheVariants.{UnknownCommand, WrongArity, BadKey, BadVectorForm, Fp32, Reduce, BadDimension, ShortVector, BadComponent, BadName, UnknownOption, MissingValue, Quantiser, BadEf, BadM, LongAttribute, BadCount, Epsilon, BadFilterEf, LongFilter, FilterSyntax, FilterTooDeep, Raw, NoSuchKey, NoSuchElement, WrongDimension, WrongM, FullSet, FullKeys, FullAll, ChangeLimit, NoMemory}
 use Rattle.vs_defs.specs.Request as model
 
 abbrev pub refusal_of : Refusal → Option model.Refusal
@@ -28,7 +28,6 @@ refusal_of (LongFilter len) = Some (model.LongFilter len)
 refusal_of (FilterSyntax at) = Some (model.FilterSyntax at)
 refusal_of (FilterTooDeep at) = Some (model.FilterTooDeep at)
 refusal_of Raw = Some model.Raw
-refusal_of NotBuilt = Some model.NotBuilt
 refusal_of NoSuchKey = Some model.NoSuchKey
 refusal_of NoSuchElement = Some model.NoSuchElement
 refusal_of (WrongDimension given has) = Some (model.WrongDimension given has)

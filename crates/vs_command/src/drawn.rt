@@ -10,6 +10,7 @@ ghost use Rattle.vs_defs.specs.Draws.{level_of, place_of, name_at, picks as pick
 use crate::Request;
 use crate::limits::MAX_LEVEL;
 use std::alloc::Global;
+use std::collections::BTreeMap;
 use vs_outside::{List, NoMemory};
 
 /// How many drawn words a request takes: one for a VADD and for a random pick without a count, as many as the count says
@@ -56,33 +57,21 @@ pub fn place_of_word(word: u32, members: u32) -> u32
     ((word as u64 * members as u64) >> 32) as u32
 }
 
-// Each word in turn puts a place picked among those from its own turn on into that turn.
-fn shuffle(places: &mut [u32], words: &[u32])
-    requires turns { length words.now ≤ length places.old }
-    requires few { length places.old < 2 ^ 32 }
-    ensures { places.new ≡ shuffled 0 places.old words.now }
-{
-    let count = places.len();
-    for (turn, word) in words.iter().enumerate() {
-        let left = (count - turn) as u32;
-        places.swap(turn, turn + place_of_word(*word, left) as usize);
-    }
-}
-
-fn all_places(alloc: Global, members: u32) -> Result<Vec<u32>, NoMemory>
-    ensures { IfOk result (λ v. v.items ≡ range_with_len 0 members) }
-{
-    (0..members).collect(alloc)
-}
-
+// Each word in turn picks one of the places from its own turn on; what stood at the turn then stands at the picked place. A place that
+// isn't among the displaced ones stands for itself.
 fn picks_once(alloc: Global, members: u32, words: &[u32]) -> Result<Vec<u32>, NoMemory>
     requires { length words.now ≤ members }
     ensures { IfOk result (λ v. v.items ≡ take (length words.now) (shuffled 0 (range_with_len 0 members) words.now)) }
 {
-    let mut places = all_places(alloc, members)?;
-    shuffle(&mut places, words);
-    places.truncate(words.len());
-    Ok(places)
+    let mut displaced = BTreeMap::new(alloc);
+    let mut picked = Vec::new(alloc);
+    for (turn, word) in words.iter().enumerate() {
+        let first = turn as u32;
+        let place = first + place_of_word(*word, members - first);
+        let moved = displaced.get(&first).copied().unwrap_or(first);
+        picked.push(displaced.insert(place, moved)?.unwrap_or(place))?;
+    }
+    Ok(picked)
 }
 
 fn picks_anew(alloc: Global, members: u32, words: &[u32]) -> Result<Vec<u32>, NoMemory>
@@ -96,7 +85,8 @@ fn picks_anew(alloc: Global, members: u32, words: &[u32]) -> Result<Vec<u32>, No
 }
 
 /// The places of the members that a random pick with a count answers, in the order of the answer: with a count of 0 or
-/// more, as many different ones as there are, at most the count; with a negative one, one for each word, anew.
+/// more, as many different ones as there are, at most the count; with a negative one, one for each word, anew. The memory
+/// it takes grows with the words, not with the members.
 pub fn picks(alloc: Global, count: i32, members: u32, words: &[u32]) -> Result<List<u32>, NoMemory>
     requires { length words.now ≡ unsigned_abs count }
     ensures picks { (names : Items Bytes) → length names ≡ members → IfOk result (λ places. map (λ i. name_at i names) places ≡ picks_of count names words.now) }

@@ -5,9 +5,8 @@ ghost use Rattle.vs_command.specs.Readings.{Gives, GivesRequest, AreShort, IsWan
 ghost use Rattle.vs_command.specs.Requests.{request_of};
 ghost use Rattle.vs_command.specs.Words.{command_seen};
 ghost use Rattle.vs_defs.specs.Bounds.{IsInBounds, IsNameInBounds, IsPickCount};
-ghost use Rattle.vs_defs.specs.Read.{fits_arity, read_keys as keys_in, read_member as member_in, read_raw as raw_in, read_withscores as withscores_in, read_picks as picks_in};
+ghost use Rattle.vs_defs.specs.Read.{fits_arity, read, read_keys as keys_in, read_member as member_in, read_raw as raw_in, read_withscores as withscores_in, read_picks as picks_in};
 ghost use Rattle.vs_defs.specs.Read as command;
-ghost use Rattle.vs_defs.specs.Stages.{is_plain, plain_read};
 
 use crate::command::Command;
 use crate::limits::MAX_PICKS;
@@ -266,26 +265,12 @@ fn read_command(alloc: Global, command: Command, words: &[Text]) -> Result<Reque
     }
 }
 
-// Whether this form is served yet: there is no graph, so no search but the exact one, and nothing to tell of links.
-fn is_served(request: &Request) -> bool
-    ensures { result ≡ is_plain (request_of request.now) }
-{
-    match request {
-        Request::Vsim(search) => search.truth,
-        Request::Vlinks { .. } | Request::Vinfo(_) => false,
-        _ => true,
-    }
-}
-
 /// The request that a message of these words asks for, or the first cause for which it is refused. Words of commands and
 /// options are compared without regard to ASCII case; an option may be repeated, and the last one counts.
-///
-/// A form that is not served yet is refused as `NotBuilt`, behind every cause in its words: VLINKS, VINFO, and a VSIM
-/// without TRUTH.
 pub fn read_request(alloc: Global, words: &[Text]) -> Result<Request, Refusal>
     requires some { 1 ≤ length words.now }
     requires short { AreShort words.now }
-    ensures request { Gives request_of result (plain_read words.now) }
+    ensures request { Gives request_of result (read words.now) }
     ensures bounds { IfOk result (λ r. IsInBounds (request_of r)) }
     ensures memory { length words.now ≡ 1 → IsWanting result → ⊥ }
 {
@@ -295,10 +280,5 @@ pub fn read_request(alloc: Global, words: &[Text]) -> Result<Request, Refusal>
     if !command.takes(words.len()) {
         return Err(Refusal::WrongArity);
     }
-    let request = read_command(alloc, command, words)?;
-    if is_served(&request) {
-        Ok(request)
-    } else {
-        Err(Refusal::NotBuilt)
-    }
+    read_command(alloc, command, words)
 }

@@ -6,8 +6,8 @@ use vs_outside::NoMemory;
 /// A cause of refusal, or want of memory.
 ///
 /// `at` counts the words of the message from 0, the command being word 0; the causes of a filter alone count the bytes
-/// of its text. `len` counts bytes. The first causes, up to `NotBuilt`, lie in the words of a request; the others lie in
-/// the store that it meets. `NotBuilt` stands for a form that is not served yet.
+/// of its text. `len` counts bytes. The first causes, up to `Raw`, lie in the words of a request; the others lie in the
+/// store that it meets.
 #[derive(Clone, Copy, Debug, PartialEq, Eq)]
 pub enum Refusal {
     UnknownCommand,
@@ -33,7 +33,6 @@ pub enum Refusal {
     FilterSyntax { at: u32 },
     FilterTooDeep { at: u32 },
     Raw,
-    NotBuilt,
     NoSuchKey,
     NoSuchElement,
     WrongDimension { given: u32, has: u32 },

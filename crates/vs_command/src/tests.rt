@@ -4,12 +4,13 @@
 ghost use Rattle.std.specs.Prelude.{IsTrue};
 ghost use Rattle.vs_command.specs.Readings.{AreShort};
 
+mod shown;
+
 use super::*;
+use shown::show_request;
 use std::alloc::{AllocError, Global};
 use std::process::Abort;
-use std::str;
 use std::test::Fail;
-use vs_bits::Bits;
 use vs_outside::{List, Text};
 
 const PLAIN: [(&str, &str); 72] = [
@@ -57,7 +58,7 @@ const PLAIN: [(&str, &str); 72] = [
     ("VDIM ~0", "BadKey { len: 0 }"),
     ("VDIM ~65536", "BadKey { len: 65536 }"),
     ("VINFO", "WrongArity"),
-    ("VINFO k", "NotBuilt"),
+    ("VINFO k", "Vinfo k"),
     ("VINFO k x", "WrongArity"),
     ("VINFO ~0", "BadKey { len: 0 }"),
     ("VINFO ~1025", "BadKey { len: 1025 }"),
@@ -119,9 +120,9 @@ const MEMBERS: [(&str, &str); 49] = [
     ("VEMB k ~0 RAW", "BadName { len: 0 }"),
     ("VEMB k ~1025 x", "BadName { len: 1025 }"),
     ("VLINKS k", "WrongArity"),
-    ("VLINKS k n", "NotBuilt"),
-    ("VLINKS k n WITHSCORES", "NotBuilt"),
-    ("VLINKS k n withScores", "NotBuilt"),
+    ("VLINKS k n", "Vlinks k n"),
+    ("VLINKS k n WITHSCORES", "Vlinks k n scores"),
+    ("VLINKS k n withScores", "Vlinks k n scores"),
     ("VLINKS k n RAW", "UnknownOption { at: 3 }"),
     ("VLINKS k n ~0", "UnknownOption { at: 3 }"),
     ("VLINKS k n WITHSCORES x", "WrongArity"),
@@ -220,7 +221,7 @@ const VECTORS: [(&str, &str); 80] = [
     ("VSIM", "WrongArity"),
     ("VSIM k", "WrongArity"),
     ("VSIM k ELE", "WrongArity"),
-    ("VSIM k ELE n", "NotBuilt"),
+    ("VSIM k ELE n", "Vsim k ele n count 10 ef 100 effort 0"),
     (
         "VSIM k ELE n TRUTH",
         "Vsim k ele n count 10 ef 100 effort 0 truth",
@@ -233,7 +234,7 @@ const VECTORS: [(&str, &str); 80] = [
         "VSIM k VALUES 2 1 -1 TRUTH",
         "Vsim k 10 count 10 ef 100 effort 0 truth",
     ),
-    ("VSIM k VALUES 1 1", "NotBuilt"),
+    ("VSIM k VALUES 1 1", "Vsim k 1 count 10 ef 100 effort 0"),
     (
         "VSIM k VALUES 4096 1^4096 TRUTH",
         "Vsim k 4096 bits count 10 ef 100 effort 0 truth",
@@ -363,8 +364,14 @@ const SEARCHES: [(&str, &str); 66] = [
         "VSIM k ELE n NOTHREAD WITHATTRIBS WITHSCORES TRUTH TRUTH",
         "Vsim k ele n count 10 ef 100 effort 0 scores attrs truth nothread",
     ),
-    ("VSIM k ELE n WITHSCORES", "NotBuilt"),
-    ("VSIM k ELE n NOTHREAD COUNT 5", "NotBuilt"),
+    (
+        "VSIM k ELE n WITHSCORES",
+        "Vsim k ele n count 10 ef 100 effort 0 scores",
+    ),
+    (
+        "VSIM k ELE n NOTHREAD COUNT 5",
+        "Vsim k ele n count 5 ef 100 effort 0 nothread",
+    ),
     (
         "VSIM k ELE n COUNT 1 TRUTH",
         "Vsim k ele n count 1 ef 100 effort 0 truth",
@@ -461,7 +468,10 @@ const SEARCHES: [(&str, &str); 66] = [
         "BadFilterEf { at: 7 }",
     ),
     ("VSIM k ELE n FILTER", "MissingValue { at: 4 }"),
-    ("VSIM k ELE n FILTER .a", "NotBuilt"),
+    (
+        "VSIM k ELE n FILTER .a",
+        "Vsim k ele n count 10 ef 100 effort 1000 filter",
+    ),
     (
         "VSIM k ELE n FILTER .a COUNT 7 TRUTH",
         "Vsim k ele n count 7 ef 100 effort 700 filter truth",
@@ -502,139 +512,6 @@ const FILTERS: [(&str, &str); 6] = [
         "Vsim k ele n count 10 ef 100 effort 1000 filter truth",
     ),
 ];
-
-// A text as it is, or its length where it is empty, long or no UTF-8.
-fn show_text(alloc: Global, text: &Text) -> Result<String, AllocError> {
-    if 0 < text.len() && text.len() < 20 {
-        if let Ok(text) = str::from_utf8(text.as_slice()) {
-            return format!(in alloc; "{text}");
-        }
-    }
-    format!(in alloc; "~{}", text.len())
-}
-
-fn show_bits(alloc: Global, bits: &Bits) -> Result<String, AllocError> {
-    if bits.dim() > 64 {
-        return format!(in alloc; "{} bits", bits.dim());
-    }
-    let mut shown = String::new(alloc);
-    for i in 0..bits.dim() {
-        shown.push(if bits.bit(i) { '1' } else { '0' })?;
-    }
-    Ok(shown)
-}
-
-fn show_keys(alloc: Global, command: &str, keys: &[Text]) -> Result<String, AllocError> {
-    if keys.len() > 8 {
-        return format!(in alloc; "{command} {} keys", keys.len());
-    }
-    let mut shown = format!(in alloc; "{command}")?;
-    for key in keys {
-        shown.push(' ')?;
-        shown.push_str(show_text(alloc, key)?.as_str())?;
-    }
-    Ok(shown)
-}
-
-fn show_member(
-    alloc: Global,
-    command: &str,
-    key: &Text,
-    name: &Text,
-) -> Result<String, AllocError> {
-    let key = show_text(alloc, key)?;
-    let name = show_text(alloc, name)?;
-    format!(in alloc; "{command} {} {}", key.as_str(), name.as_str())
-}
-
-fn show_add(alloc: Global, add: &Add) -> Result<String, AllocError> {
-    let member = show_member(alloc, "Vadd", &add.key, &add.name)?;
-    let bits = show_bits(alloc, &add.bits)?;
-    let mut shown = format!(in alloc; "{} {} ef {}", member.as_str(), bits.as_str(), add.ef)?;
-    if add.cas {
-        shown.push_str(" cas")?;
-    }
-    if let Some(m) = add.m {
-        shown.push_str(format!(in alloc; " m {m}")?.as_str())?;
-    }
-    if let Some(attr) = &add.attr {
-        shown.push_str(" attr ")?;
-        shown.push_str(show_text(alloc, attr)?.as_str())?;
-    }
-    Ok(shown)
-}
-
-fn show_search(alloc: Global, search: &Search) -> Result<String, AllocError> {
-    let what = match &search.what {
-        What::Ele(name) => {
-            let name = show_text(alloc, name)?;
-            format!(in alloc; "ele {}", name.as_str())?
-        }
-        What::Values(bits) => show_bits(alloc, bits)?,
-    };
-    let key = show_text(alloc, &search.key)?;
-    let mut shown = format!(in alloc;
-        "Vsim {} {} count {} ef {} effort {}",
-        key.as_str(),
-        what.as_str(),
-        search.count,
-        search.ef,
-        search.effort
-    )?;
-    for (flag, name) in [
-        (search.filter.is_some(), " filter"),
-        (search.scores, " scores"),
-        (search.attrs, " attrs"),
-        (search.truth, " truth"),
-        (search.nothread, " nothread"),
-    ] {
-        if flag {
-            shown.push_str(name)?;
-        }
-    }
-    Ok(shown)
-}
-
-fn show_request(alloc: Global, request: &Request) -> Result<String, AllocError> {
-    match request {
-        Request::Ping(None) => format!(in alloc; "Ping"),
-        Request::Ping(Some(text)) => {
-            let text = show_text(alloc, text)?;
-            format!(in alloc; "Ping {}", text.as_str())
-        }
-        Request::Quit => format!(in alloc; "Quit"),
-        Request::Del(keys) => show_keys(alloc, "Del", keys.as_slice()),
-        Request::Exists(keys) => show_keys(alloc, "Exists", keys.as_slice()),
-        Request::Vadd(add) => show_add(alloc, add),
-        Request::Vrem { key, name } => show_member(alloc, "Vrem", key, name),
-        Request::Vsim(search) => show_search(alloc, search),
-        Request::Vcard(key) => {
-            let key = show_text(alloc, key)?;
-            format!(in alloc; "Vcard {}", key.as_str())
-        }
-        Request::Vdim(key) => {
-            let key = show_text(alloc, key)?;
-            format!(in alloc; "Vdim {}", key.as_str())
-        }
-        Request::Vemb { key, name } => show_member(alloc, "Vemb", key, name),
-        Request::Vlinks { key, name, .. } => show_member(alloc, "Vlinks", key, name),
-        Request::Vinfo(key) => {
-            let key = show_text(alloc, key)?;
-            format!(in alloc; "Vinfo {}", key.as_str())
-        }
-        Request::Vgetattr { key, name } => show_member(alloc, "Vgetattr", key, name),
-        Request::Vsetattr { key, name, text } => {
-            let member = show_member(alloc, "Vsetattr", key, name)?;
-            let text = show_text(alloc, text)?;
-            format!(in alloc; "{} {}", member.as_str(), text.as_str())
-        }
-        Request::Vrandmember { key, count } => {
-            let key = show_text(alloc, key)?;
-            format!(in alloc; "Vrandmember {} {count:?}", key.as_str())
-        }
-        Request::Vismember { key, name } => show_member(alloc, "Vismember", key, name),
-    }
-}
 
 // A word as it is written, or `~N` for a word of N bytes.
 fn word_of(alloc: Global, word: &str) -> Result<Text, AllocError> {
@@ -720,6 +597,25 @@ fn reads_filters(rt: HostRuntime) -> Result<(), Fail> {
 }
 
 #[test]
+fn copies_searches(rt: HostRuntime) -> Result<(), Fail> {
+    let alloc = rt.alloc();
+    for line in [
+        "VSIM k ELE n",
+        "VSIM key ELE n WITHSCORES COUNT 3 EF 7 TRUTH",
+        "VSIM k VALUES 2 1 -1 WITHATTRIBS NOTHREAD FILTER .a FILTER-EF 9",
+    ] {
+        let Ok(Request::Vsim(search)) = read_line(alloc, &rt, line)? else {
+            panic!(rt; "{line}");
+        };
+        let copy = search.try_clone(alloc)?;
+        let copied = show_request(alloc, &Request::Vsim(copy))?;
+        let shown = show_request(alloc, &Request::Vsim(search))?;
+        assert_eq!(rt; copied.as_str(), shown.as_str());
+    }
+    Ok(())
+}
+
+#[test]
 fn draws_words(rt: HostRuntime) -> Result<(), Fail> {
     for (line, wanted) in [
         ("VADD k VALUES 1 1 n", 1),
@@ -754,10 +650,12 @@ fn takes_words(rt: HostRuntime) -> Result<(), Fail> {
         assert_eq!(rt; level_of_word(word), level);
     }
     assert_eq!(rt; place_of_word(2147483648, 5), 2);
-    let cases: [(i32, u32, &[u32], &[u32]); 7] = [
+    let cases: [(i32, u32, &[u32], &[u32]); 9] = [
         (2, 3, &[0, 0], &[0, 1]),
         (2, 3, &[2147483648, 4294967295], &[1, 2]),
         (4, 3, &[4294967295, 4294967295, 4294967295, 0], &[2, 0, 1]),
+        (3, 4, &[4294967295, 4294967295, 4294967295], &[3, 0, 1]),
+        (2, 1048576, &[4294967295, 4294967295], &[1048575, 0]),
         (0, 3, &[], &[]),
         (3, 0, &[7, 7, 7], &[]),
         (-3, 3, &[0, 2147483648, 4294967295], &[0, 1, 2]),

@@ -6,13 +6,12 @@ use Rattle.vs_defs.specs.Stream.{Message}
 use Rattle.vs_defs.specs.Request.{Request, Refusal}
 use Rattle.vs_defs.specs.Request as request
 use Rattle.vs_defs.specs.Read.{Ping, Quit, commands, named, read_known}
-use Rattle.vs_defs.specs.Stages.{is_plain, if_built}
 use Rattle.vs_session_defs.specs.Session.{is_ping_or_quit}
 use Rattle.vs_connection.specs.Stage.{read}
 
 -- what a word alone asks for, by whether it is PING, or QUIT
 abbrev pub reading : Bool → Bool → Bytes → Result Request Refusal
-reading p q w = if_built is_plain (read_known (cond p (Some Ping) (cond q (Some Quit) (named w (drop 2 commands)))) (w ∷ []))
+reading p q w = read_known (cond p (Some Ping) (cond q (Some Quit) (named w (drop 2 commands)))) (w ∷ [])
 
 asks_at : (w : Bytes) (p q : Bool) → IsTrue (p || q) → (reading p q w ≡ Ok (request.Ping None)) ⊎ (reading p q w ≡ Ok request.Quit)
 asks_at w true q t = inl refl

@@ -1,5 +1,5 @@
--- What is served before there is a graph, by one author over any history: which words are read, how many words a request draws, and a
--- connection from one point to another.
+-- What is served by one author over any history: which words are read, how many words a request draws, and a connection from one point to
+-- another.
 --     CallOn H      H is what is known of a history; what a call of an author does to it
 -- Others may lengthen the history between two calls: the call says how it goes on.
 use Rattle.std.specs.Prelude.{ℕ, List, Result, true}
@@ -7,7 +7,6 @@ use Rattle.rand_pcg.specs.Lcg.{Lcg}
 use Rattle.vs_defs.specs.Bytes.{Bytes}
 use Rattle.vs_defs.specs.Request.{Request, Refusal}
 use Rattle.vs_defs.specs.Read as reading
-use Rattle.vs_defs.specs.Stages.{plain_read}
 use Rattle.vs_defs.specs.Reply.{Outcome}
 use Rattle.vs_defs.specs.Stream.{Message}
 use Rattle.vs_session_defs.specs.Session as session
@@ -17,7 +16,7 @@ abbrev pub CallOn : Type 0 → Type 1
 CallOn H = ℕ → H → Request → List ℕ → Outcome → H → Type 0
 
 abbrev pub read : List Bytes → Result Request Refusal
-read = plain_read
+read = reading.read
 
 abbrev pub draws : Request → ℕ
 draws = reading.draws

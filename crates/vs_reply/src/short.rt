@@ -214,7 +214,6 @@ fn refusal_line(refusal: Refusal) -> Short
         Refusal::FilterSyntax { at } => counted(b"ERR filter syntax at byte ", at, b""),
         Refusal::FilterTooDeep { at } => counted(b"ERR filter nests too deep at byte ", at, b""),
         Refusal::Raw => plain(b"ERR RAW is not supported"),
-        Refusal::NotBuilt => plain(b"ERR not built yet"),
         Refusal::NoSuchKey => plain(b"ERR no such key"),
         Refusal::NoSuchElement => plain(b"ERR no such element"),
         Refusal::WrongDimension { given, has } => wrong_dimension(given, has),

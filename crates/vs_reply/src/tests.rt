@@ -121,8 +121,7 @@ fn refusals_of_options(rt: HostRuntime) {
 
 #[test]
 fn refusals_of_the_store(rt: HostRuntime) {
-    let cases: [(Refusal, &[u8]); 10] = [
-        (Refusal::NotBuilt, b"-ERR not built yet\r\n"),
+    let cases: [(Refusal, &[u8]); 9] = [
         (Refusal::NoSuchKey, b"-ERR no such key\r\n"),
         (Refusal::NoSuchElement, b"-ERR no such element\r\n"),
         (

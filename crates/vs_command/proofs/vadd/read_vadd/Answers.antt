@@ -2,8 +2,7 @@ use Rattle.std.proofs.Common.{◌≡◌, ◌+◌, length, drop, ap, sym, ◌∙�
 use Rattle.vs_bits.specs.Requests.{add_of}
 use Rattle.vs_defs.specs.Request as request
 use Rattle.vs_defs.specs.Read.{read_key, read_add_form, read_name, read_options, find_add_option, no_add_options, word}
-use Rattle.vs_command.proofs.Steps.{refused}
-use Rattle.vs_command.proofs.Stages.{addition_refused}
+use Rattle.vs_command.proofs.Steps.{refused, addition_refused}
 use Rattle.vs_command.proofs.vadd.read_vadd.Goals as goal
 
 pub returns-in_err-options-clause-add : goal.returns-in_err-options-clause-add
