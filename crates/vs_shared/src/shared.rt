@@ -6,7 +6,8 @@ ghost use Rattle.vs_defs.specs.Memory.{needs_no_memory};
 ghost use Rattle.vs_defs.specs.Read.{draws};
 ghost use Rattle.vs_defs.specs.Reply as outcome;
 ghost use Rattle.vs_defs.specs.Request as requests;
-ghost use Rattle.vs_thread_defs.specs.Passes.{NowCall, CommitCall};
+ghost use Rattle.vs_thread_defs.specs.Passes.{NowCall, DraftCall, CommitCall};
+ghost use Rattle.vs_thread_defs.specs.Passes as begun;
 ghost use Rattle.vs_command.specs.Outcomes.{outcome_of};
 ghost use Rattle.vs_command.specs.Requests.{request_of, search_of};
 ghost use Rattle.vs_command.specs.Scores.{HasScores};
@@ -111,7 +112,7 @@ impl<N: TableName> Shared<N> {
         ensures stream { pass.new.stream ≡ pass.old.stream }
     {
         let Ok(search) = search.try_clone(self.alloc) else {
-            return Err(starve(pass));
+            return Err(starved(pass));
         };
         let task = Look { search };
         self.desk.lock(rt).hold(&self.word, pass, task)
@@ -138,7 +139,7 @@ impl<N: TableName> Shared<N> {
             unreachable!()
         };
         let Ok(add) = add.try_clone() else {
-            return Err(starve(pass));
+            return Err(starved(pass));
         };
         let task = Draft {
             author: pass.number(),
@@ -200,10 +201,11 @@ impl<N: TableName> Shared<N> {
     }
 }
 
-// Memory ran out before the hold: nothing is done, and the pass sees nothing new.
-fn starve<N: TableName>(pass: &Pass<N>) -> Refusal
+// Memory ran out before the hold: nothing is done, and the pass has seen what it had.
+fn starved<N: TableName>(pass: &Pass<N>) -> Refusal
     ensures refusal { result ≡ Refusal.NoMemory }
-    ensures call { (r : requests.Request) (words : List ℕ) → needs_no_memory r ≡ false → NowCall N.limits pass.now.number pass.now.seen r words outcome.OutOfMemory pass.now.seen }
+    ensures now { (r : requests.Request) (words : List ℕ) → needs_no_memory r ≡ false → NowCall N.limits pass.now.number pass.now.seen r words outcome.OutOfMemory pass.now.seen }
+    ensures draft { (add : requests.Add) (drawn : ℕ) → DraftCall N.limits pass.now.number pass.now.seen add drawn (begun.Done outcome.OutOfMemory) pass.now.seen }
 {
     let _known = pass.known();
     Refusal::NoMemory
