@@ -3,14 +3,14 @@
 #![tactic(auto)]
 
 mod hits;
-mod info;
-mod links;
+mod facts;
+mod layers;
 mod member;
-mod random;
+mod picking;
 mod search;
 
-pub use info::info;
-pub use links::links;
+pub use facts::info;
+pub use layers::links;
 pub use member::{attribute, embedding};
-pub use random::random;
+pub use picking::random;
 pub use search::find;
