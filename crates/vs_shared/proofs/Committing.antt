@@ -60,8 +60,8 @@ module _ (was now : Set) (m_is : now.contents.m ≡ was.contents.m) where
         let is = name_at l i d within in
         let inside : i < length (named l) = omega (arith, within, long l) in
         there_by layer c.1 (member_of c.0 was.contents.members) (member_of c.0 now.contents.members) (bits i d within)
-            (subst (λ (n : Bytes). IsTrue (stands_at was.contents.members layer n)) is (names.stand i d.0 inside))
-            (subst (KeepsShape was.contents now.contents) is (keeps i d.0 inside));
+        (subst (λ (n : Bytes). IsTrue (stands_at was.contents.members layer n)) is (names.stand i d.0 inside))
+        (subst (KeepsShape was.contents now.contents) is (keeps i d.0 inside));
   }
 
   none_there : (layer : ℕ) → AreThere now layer []
@@ -74,7 +74,7 @@ module _ (was now : Set) (m_is : now.contents.m ≡ was.contents.m) where
   -- ---- all layers
 
   module _ (level : ℕ) (chosen : List (List (Bytes × Vector))) (names : AreChosenNames was level (names_down chosen)) (keeps : All (All (KeepsShape was.contents now.contents)) (names_down chosen))
-    (bits : All (All (HasBits was)) chosen) where
+      (bits : All (All (HasBits was)) chosen) where
     layers : length chosen ≡ level + 1
     layers = sym (length-map chosen named) ∙ sym (length-reverse (map named chosen)) ∙ names.layers
 
@@ -90,9 +90,9 @@ module _ (was now : Set) (m_is : now.contents.m ≡ was.contents.m) where
         let inside : level - layer < length (names_down chosen) = omega (arith, names.layers) in
         let back : level - (level - layer) ≡ layer = omega (arith, within, layers) in
         there_yet layer (get_or chosen layer [])
-            (subst (AreLayerNames was layer) is (subst (λ k. AreLayerNames was k (get_or (names_down chosen) (level - layer) [])) back (names.lists (level - layer) [] inside)))
-            (subst (All (KeepsShape was.contents now.contents)) is (keeps (level - layer) [] inside))
-            (bits layer [] within)
+        (subst (AreLayerNames was layer) is (subst (λ k. AreLayerNames was k (get_or (names_down chosen) (level - layer) [])) back (names.lists (level - layer) [] inside)))
+        (subst (All (KeepsShape was.contents now.contents)) is (keeps (level - layer) [] inside))
+        (bits layer [] within)
 
     all_there : (layer : ℕ) → AreThere now layer (unwrap_or (slice_get chosen layer) [])
     all_there layer = elim (cases_lt layer (length chosen)) [
@@ -128,7 +128,7 @@ module _ (limits : Limits) (s : GraphHistory) (ready : core.Ready) (at : IsReady
   pub may_commit : DraftKeepsChosen → (number : ℕ) (log : GraphHistory) → Holding limits number s log → (store : Store Set) → store ≡ store_of limits log → MayCommit store ready
   may_commit laws number log held store ends now there fresh =
       let kept = laws limits log ready.add ready.level (prepared_after s ready) at.set now held.legal
-          (ap (set_of ready.add.key) (at_a_beginning limits s log held.begins) ∙ was_there)
-          (ap (set_of ready.add.key) (sym ends) ∙ there) at.are_chosen
-          (subst (λ (cut : ℕ). stale_by cut ready.add.name (Some now) ≡ None) at.cut_is fresh) in
+      (ap (set_of ready.add.key) (at_a_beginning limits s log held.begins) ∙ was_there)
+      (ap (set_of ready.add.key) (sym ends) ∙ there) at.are_chosen
+      (subst (λ (cut : ℕ). stale_by cut ready.add.name (Some now) ≡ None) at.cut_is fresh) in
       may_commit_in at.set now ready was_ready kept.0 kept.1 kept.2

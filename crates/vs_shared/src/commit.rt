@@ -35,7 +35,7 @@ pub(crate) struct CommitOutput {
 }
 
 impl<'a> Task<Counted> for Commit<'a> {
-    ghost use Rattle.std.specs.Prelude.{◌≡◌, ◌×◌, IfOk};
+    ghost use Rattle.std.specs.Prelude.{◌≡◌, IfOk};
     ghost use Rattle.vs_defs.specs.Bounds.{IsAddInBounds};
     ghost use Rattle.vs_defs.specs.Request.{Vadd};
     ghost use Rattle.vs_thread_defs.specs.Passes.{CommitCall};

@@ -25,7 +25,7 @@ pub(crate) struct DraftOutput {
 }
 
 impl<'a> Task<Counted> for Draft<'a> {
-    ghost use Rattle.std.specs.Prelude.{◌≡◌, ◌×◌, IsTrue, IfOk};
+    ghost use Rattle.std.specs.Prelude.{◌≡◌, IsTrue, IfOk};
     ghost use Rattle.vs_defs.specs.Bounds.{IsAddInBounds};
     ghost use Rattle.vs_defs.specs.Request.{Vadd};
     ghost use Rattle.vs_bits.specs.Requests.{add_of};

@@ -14,7 +14,7 @@ pub(crate) struct Now<'a> {
 }
 
 impl<'a> Task<Counted> for Now<'a> {
-    ghost use Rattle.std.specs.Prelude.{◌≡◌, ◌×◌, length, IfOk};
+    ghost use Rattle.std.specs.Prelude.{◌≡◌, length, IfOk};
     ghost use Rattle.vs_defs.specs.Bounds.{IsInBounds};
     ghost use Rattle.vs_defs.specs.Read.{draws};
     ghost use Rattle.vs_thread_defs.specs.Passes.{NowCall};

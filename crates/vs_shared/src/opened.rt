@@ -20,7 +20,7 @@ pub struct Opened {
 }
 
 impl Model for Opened {
-    ghost use Rattle.std.specs.Prelude.{◌≡◌, ◌×◌};
+    ghost use Rattle.std.specs.Prelude.{◌≡◌};
     ghost use Rattle.vs_history.specs.Name.{Name};
     ghost use Rattle.vs_store.specs.Kept.{AreUsual};
     ghost use Rattle.vs_store.specs.Seen.{limits_seen};
