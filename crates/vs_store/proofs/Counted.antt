@@ -5,7 +5,7 @@ use Rattle.std.specs.Option.{option_or}
 use Rattle.vs_defs.specs.Answers.{Answers}
 use Rattle.vs_defs.specs.Bytes.{Bytes}
 use Rattle.vs_defs.specs.PlainAnswer.{at_set, truth_number}
-use Rattle.vs_defs.specs.Refuse.{has_key, has_member, in_set}
+use Rattle.vs_defs.specs.Refuse.{store_refusal, has_key, has_member, in_set}
 use Rattle.vs_defs.specs.Request as request
 use Rattle.vs_defs.specs.Store.{Set, Contents, Store, set_of, plain, is_member}
 use Rattle.vs_store.proofs.Changes.{plain_set}
@@ -47,6 +47,9 @@ module _ (s : Store Set) (key : Bytes) (is : set_of key s ≡ None) where
     changes_nothing = refl;
     answer_is = ap (λ o. Some (at_set o (request.Int (pos 0)) (λ y. request.Int (pos (length y.members))))) (plain_set s key None is);
   }
+
+  pub no_dim : store_refusal (plain s) (request.Vdim key) ≡ Some request.NoSuchKey
+  no_dim = ap (λ o. option_or (cond (is_some o) None (Some request.NoSuchKey)) None) (plain_set s key None is)
 
   pub no_membership : (name : Bytes) → Answers s (request.Vismember key name) [] (request.Int (pos 0))
   no_membership name = record {

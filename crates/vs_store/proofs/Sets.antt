@@ -1,6 +1,6 @@
 -- The entries that are kept, and the sets by their keys that contracts see: what is found, where a key stands, what an edit of the entries is
 -- for the sets; and the same sets without their links.
-use Rattle.std.proofs.Common.{◌≡◌, ℕ, ◌+◌, ◌<◌, zero, suc, Bool, List, [], ◌∷◌, cond, length, map, get_or, position, refl, sym, ap, ◌∙◌, subst, arith}
+use Rattle.std.proofs.Common.{◌≡◌, ℕ, ◌+◌, ◌<◌, zero, suc, Bool, true, List, [], ◌∷◌, cond, length, map, get_or, position, refl, sym, ap, ◌∙◌, subst, arith}
 use Rattle.std.specs.Prelude.{Option, Some, None, IfSome, is_some, option_map, nat_eq, slice_get, slice_set, sum_by}
 use Rattle.std.specs.Map.{lookup, keys_of, values_of}
 use Rattle.std.specs.Global.{Vec}
@@ -15,6 +15,7 @@ use Rattle.vs_defs.specs.Bytes.{Bytes, same_name}
 use Rattle.vs_defs.specs.Store as model
 use Rattle.vs_defs.specs.Store.{Contents, Store, lookup_set, set_of, plain, member_count}
 use Rattle.vs_defs.proofs.Keys.{same_is}
+use Rattle.vs_set.proofs.Members.{none_is}
 use Rattle.vs_store.specs.Places.{IsSetAt}
 
 abbrev pub Entries : Type 0
@@ -53,6 +54,17 @@ a_place key (d ∷ ds) p s seen is found =
             (sym (set_is key es) ∙ sym found ∙ slice_get-map (λ (f : Vec ℕ × model.Set). f.1) es p ∙ ap (option_map (λ (f : Vec ℕ × model.Set). f.1)) here);
       },
     )
+
+pub a_place_or_none : (key : Bytes) (es : Entries) (o : Option ℕ) (s : Store model.Set) → map see es ≡ s.sets → o ≡ position (is_key key) (keys_of es)
+    → IfSome o (λ p. slice_get (values_of es) p ≡ lookup (is_key key) es) → IfSome o (λ p. (x : model.Set) × IsSetAt key p s x)
+a_place_or_none key es None s seen is found = tt
+a_place_or_none key es (Some p) s seen is found = a_place key es p s seen (sym is) found
+
+no_place : (key : Bytes) (es : Entries) (o : Option ℕ) → is_some o ≡ is_some (lookup (is_key key) es) → o ≡ None → lookup_set key (map see es) ≡ None
+no_place key es o found none = sym (set_is key es) ∙ none_is (lookup (is_key key) es) (sym found ∙ ap is_some none)
+
+pub no_set : (key : Bytes) (es : Entries) (o : Option ℕ) (s : Store model.Set) → map see es ≡ s.sets → is_some o ≡ is_some (lookup (is_key key) es) → o ≡ None → set_of key s ≡ None
+no_set key es o s seen found none = subst (λ l. lookup_set key l ≡ None) seen (no_place key es o found none)
 
 -- ---- a set written at a place
 

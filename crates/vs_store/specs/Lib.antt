@@ -4,4 +4,4 @@ pub mod Places
 pub mod Causes
 pub mod Snapshots
 pub mod Drafts
-pub mod Gone
+pub mod Fresh

@@ -84,6 +84,26 @@ impl Store {
         ensures scores { IfOk result HasScores }
         ensures memory { needs_no_memory (request_of request.now) ≡ true → result ≢ Err Refusal.NoMemory }
     {
+        let outcome = self.done(_author, request, words, slot);
+        self.changes();
+        outcome
+    }
+
+    /// Carries a request out at once, for the author of that number, who stands in the history alone. `words` are the drawn ones, as many as
+    /// `draws` says. A refusal, want of memory included, leaves the store as it was.
+    fn done(
+        &mut self,
+        _author: u64,
+        request: &Request,
+        words: &[u32],
+        slot: &mut Slot,
+    ) -> Result<Answer, Refusal>
+        requires bounds { IsInBounds (request_of request.now) }
+        requires words { length words.now ≡ draws_of (request_of request.now) }
+        ensures does { StoreDoes self.old (request_of request.now) words.now (outcome_of result) self.new }
+        ensures scores { IfOk result HasScores }
+        ensures memory { needs_no_memory (request_of request.now) ≡ true → result ≢ Err Refusal.NoMemory }
+    {
         match request {
             Request::Ping(None) => Ok(Answer::Pong),
             Request::Ping(Some(text)) => Ok(Answer::Bulk(text.try_clone()?)),
