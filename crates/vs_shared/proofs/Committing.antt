@@ -1,13 +1,12 @@
 -- A draft that isn't stale may be committed: whoever was chosen stands there still, with the bits that they had.
-use Rattle.std.proofs.Common.{◌≡◌, ◌≢◌, ℕ, ◌<◌, ◌≤◌, ◌+◌, ◌-◌, Bool, true, false, cond, List, [], ◌∷◌, length, map, reverse, refl, sym, ap, ◌∙◌, subst, inl, inr, arith, get_or}
-use Rattle.std.specs.Prelude.{Option, Some, None, IsTrue, IsSomeAnd, All, AllPairs, not, ◌==◌, option_map, unwrap_or, slice_get}
+use Rattle.std.proofs.Common.{◌≡◌, ℕ, ◌<◌, ◌≤◌, ◌+◌, ◌-◌, Bool, true, false, cond, List, [], length, map, refl, sym, ap, ◌∙◌, subst, inl, inr, arith, get_or}
+use Rattle.std.specs.Prelude.{Option, Some, None, IsTrue, IsSomeAnd, All, not, ◌==◌, option_map, unwrap_or, slice_get}
 use Rattle.std.proofs.lemmas.Bool.{cases_lt, leb-true}
 use Rattle.std.proofs.lemmas.Bool.Decides.{Decides-eqb}
 use Rattle.std.proofs.lemmas.List.{get_or-map, get_or-reverse, length-map, length-reverse}
 use Rattle.std.proofs.lemmas.Option.{none-some, same_Some, slice_get_past, unwrap_or-slice_get}
 use Rattle.vs_defs.specs.Bytes.{Bytes}
 use Rattle.vs_defs.specs.Vector.{Vector}
-use Rattle.vs_defs.specs.History.{Preparation}
 use Rattle.vs_defs.specs.Links.{reaches, stands_at}
 use Rattle.vs_defs.specs.Request.{Add, Refusal}
 use Rattle.vs_defs.specs.Stale.{stale_by}
@@ -18,7 +17,7 @@ use Rattle.vs_thread_defs.specs.Laws.{DraftKeepsChosen, KeepsShape, shape_of}
 use Rattle.vs_thread_defs.specs.Machine.{GraphHistory, store_of, store_at}
 use Rattle.vs_insert.specs.Chosen.{AreLayerNames, AreChosenNames}
 use Rattle.vs_insert.proofs.Lists.{chosen_names}
-use Rattle.vs_store.specs.Drafts.{WasReadyIn, IsPrepared, IsThere, AreThere, MayCommit, MayCommitIn}
+use Rattle.vs_store.specs.Drafts.{WasReadyIn, IsPrepared, AreThere, MayCommit, MayCommitIn}
 use Rattle.vs_pass.specs.Task.{Holding}
 use Rattle.vs_shared.specs.Calls.{IsReadyAfter, prepared_after}
 use Rattle.vs_pass.proofs.Tasks.{at_the_end, at_a_beginning}

@@ -1,6 +1,6 @@
 -- What each task did, and what its caller then knows, from what the store's calls ensure.
-use Rattle.std.proofs.Common.{◌≡◌, ◌≢◌, ℕ, Bool, true, false, true≢false, cond, List, [], ◌∷◌, length, Option, Some, None, Result, Ok, Err, refl, sym, ap, ◌∙◌, subst}
-use Rattle.std.specs.Prelude.{IsTrue, IfOk, IfErr, IfSome, is_some}
+use Rattle.std.proofs.Common.{◌≡◌, ◌≢◌, ℕ, Bool, true, false, true≢false, cond, List, [], ◌∷◌, length, Option, Some, None, Result, Ok, Err, refl, sym, subst}
+use Rattle.std.specs.Prelude.{IfOk, IfErr, IfSome, IsOkAnd, MatchResult, is_some}
 use Rattle.vs_defs.specs.Bounds.{IsInBounds, IsSearchInBounds, IsAddInBounds}
 use Rattle.vs_defs.specs.Memory.{needs_no_memory}
 use Rattle.vs_defs.specs.Read.{draws}
@@ -25,14 +25,13 @@ use Rattle.vs_command.specs.Answers.{answer_of}
 use Rattle.vs_command.specs.Outcomes.{outcome_of, refused_by}
 use Rattle.vs_command.specs.Refusals.{refusal_of}
 use Rattle.vs_command.specs.Scores.{HasScores}
-use Rattle.vs_store.specs.Drafts.{WasReadyIn}
-use Rattle.vs_history.specs.Work.{Work, DoesBy}
+use Rattle.vs_history.specs.Work.{DoesBy}
 use Rattle.vs_pass.specs.Task.{Holding, Works, at_once, watching}
 use Rattle.vs_pass.proofs.Tasks.{knowing, now_works, look_works, drafted_works, done_works, commit_works}
 use Rattle.vs_shared.specs.declared.begun.Begun.{Begun}
 use Rattle.vs_shared.specs.declared.begun.Begun.TheVariants.{Drafted, Done}
 use Rattle.vs_shared.specs.Calls.{LookAnswers, DraftAnswers, BegunHasScores, IsReadyAfter, prepared_after}
-use Rattle.vs_shared.specs.Done.{look_work, draft_work, commit_work, CommitsReady}
+use Rattle.vs_shared.specs.Done.{look_work, draft_work, CommitsReady}
 use Rattle.vs_shared.proofs.Committing.{was_ready, was_there}
 use Rattle.vs_shared.proofs.Wanting.{out_of_memory}
 
@@ -100,6 +99,20 @@ module _ (limits : Limits) (n : ℕ) (s log : GraphHistory) (held : Holding limi
         let o = refused_by (refusal_of e) in
         knowing limits n log old new (at_once old (request.Vadd add) (drawn ∷ []) o new) (λ t. DraftCall limits n s add drawn (begun.Done o) t) (λ t. DraftAnswers limits n s add drawn (Err e) t × IfOk {T = Begun} (Err e) BegunHasScores) (λ t call. (call, tt))
         (done_works limits n s log held old new add drawn o ends within does (λ b is. absurd (no_answer (refusal_of e) b is)))
+
+    pub drafted_by : (result : Result core.Drafting Refusal) (output : Result Begun Refusal) → MatchResult result (λ d. IsOkAnd output (λ b. b ≡ Drafted d)) (λ e. output ≡ Err e) → IfOk result (λ d. d.add ≡ add) → IfOk result (λ d. d.drawn ≡ drawn)
+        → IfOk result (λ d. set_of add.key old ≡ Some d.set) → IfOk result (λ d. IsDraftable d.set d.add) → IfErr result (λ e. IfSome (refusal_of e) (λ cause. store_refusal (plain old) (request.Vadd add) ≡ Some cause))
+        → Drafts old output
+    drafted_by (Ok d) (Ok b) is add_is drawn_is set_is draftable refused = subst (λ (x : Begun). Drafts old (Ok x)) (sym is) (draft_begun d add_is drawn_is set_is draftable)
+    drafted_by (Ok d) (Err e) is add_is drawn_is set_is draftable refused = absurd is
+    drafted_by (Err e) output is add_is drawn_is set_is draftable refused =
+        subst (Drafts old) (sym is) (draft_refused old e (refused_does old (request.Vadd add) (drawn ∷ []) (refusal_of e) refused))
+
+    pub done_by : (new : Store Set) (result : Result Answer Refusal) (output : Result Begun Refusal) → MatchResult result (λ a. IsOkAnd output (λ b. b ≡ Done a)) (λ e. output ≡ Err e) → can_draft_in add (set_of add.key old) ≡ false
+        → StoreDoes old (request.Vadd add) (drawn ∷ []) (outcome_of result) new → IfOk result HasScores → Drafts new output
+    done_by new (Ok a) (Ok b) is direct does scores = subst (λ (x : Begun). Drafts new (Ok x)) (sym is) (draft_done new a direct does scores)
+    done_by new (Ok a) (Err e) is direct does scores = absurd is
+    done_by new (Err e) output is direct does scores = subst (Drafts new) (sym is) (draft_refused new e does)
 
   module _ (known : ℕ) (counts : known ≡ length s) (ready : core.Ready) (at : IsReadyAfter limits s ready) (within : IsAddInBounds ready.add) (new : Store Set) (result : Result Answer Refusal) (scores : IfOk result HasScores) where
     abbrev is_stale : ℕ → Bool

@@ -1,5 +1,5 @@
-use Rattle.std.proofs.Common.{◌≡◌, ℕ, Bool, true, false, [], ◌∷◌, Option, is_some, sym, ap, ◌∙◌, subst}
-use Rattle.vs_defs.specs.Request.{Request, Vadd}
+use Rattle.std.proofs.Common.{ℕ, [], ◌∷◌, is_some, sym, ap, ◌∙◌, subst}
+use Rattle.vs_defs.specs.Request.{Request}
 use Rattle.vs_thread_defs.specs.Machine.{StoreDoes}
 use Rattle.vs_command.specs.Outcomes.{outcome_of}
 use Rattle.vs_command.specs.Requests.{request_of}
