@@ -2,9 +2,10 @@
 --     actors_seen actors      what contracts see of its actors
 --     seen_at core k          the actor of a number
 --     busy_of actor           why it can't begin something
+--     is_idle actor           whether it is at nothing
 --     IsOfMachine core        it stands for some state of the machine of interleavings, under limits within the usual ones
 --     Steps old event o new   one event: from whatever state the core stood for, to one for which it stands now
-use Rattle.std.specs.Prelude.{ℕ, zero, suc, List, map, Option, Some, None, slice_get}
+use Rattle.std.specs.Prelude.{ℕ, zero, suc, Bool, true, false, List, map, Option, Some, None, slice_get}
 use Rattle.vs_thread_defs.specs.Core as core
 use Rattle.vs_thread_defs.specs.Core.{StandsFor}
 use Rattle.vs_thread_defs.specs.Interleaving.{State, Event, Outcome, Happens}
@@ -35,3 +36,9 @@ IsOfMachine c = (s : State) × StandsFor c.store.limits c s
 
 abbrev pub Steps : core.Core → Event → Outcome → core.Core → Type 0
 Steps old e o new = (s : State) → StandsFor old.store.limits old s → (t : State) × Happens old.store.limits s e o t × StandsFor old.store.limits new t
+
+abbrev pub is_idle : core.Seen → Bool
+is_idle core.Idle = true
+is_idle (core.IsLooking l) = false
+is_idle (core.IsDrafting d) = false
+is_idle (core.IsReady r) = false
