@@ -113,6 +113,7 @@ impl Store {
         ensures told { reads.new ≤ reads.old + unwrap_or (option_map (λ x. commit_reads ready.level x.contents.m) (set_of ready.add.key self.old)) 0 }
         ensures err { OnErr result (self.new ≡ self.old) }
     {
+        let _changes = self.changes();
         if let Some((cut_now, taken)) = self.stale(&ready) {
             return Err(CommitError::Stale { cut_now, taken });
         }
