@@ -2,14 +2,16 @@
 --     unsuited        an actor that is at something else than the event needs
 --     done            a request that was done
 --     looked, look_refused, finished, finish_starved
+--     redone, committed, commit_refused, may_commit
 --     direct, drafted, draft_refused, prepared, prepare_starved
-use Rattle.std.proofs.Common.{◌≡◌, ℕ, zero, suc, ◌≤◌, List, [], ◌∷◌, ◌++◌, length, take, refl, sym, ap, subst, ◌∙◌, arith, inl, inr}
-use Rattle.std.specs.Prelude.{Option, Some, None, Bool, true, false, not, ◌==◌, IsTrue, IfSome, MatchOption, MatchBool, slice_get, slice_set}
+use Rattle.std.proofs.Common.{◌≡◌, ◌⊎◌, ℕ, zero, suc, ◌≤◌, List, [], ◌∷◌, ◌++◌, length, take, refl, sym, ap, subst, ◌∙◌, arith, inl, inr}
+use Rattle.std.specs.Prelude.{Option, Some, None, Bool, true, false, not, ◌==◌, IsTrue, IfSome, MatchOption, MatchBool, All, slice_get, slice_set}
 use Rattle.std.proofs.lemmas.Bool.{false≢true}
 use Rattle.std.proofs.Common.{true≢false}
 use Rattle.std.proofs.lemmas.List.{take_all}
 use Rattle.std.proofs.lemmas.Option.{none-some}
 use Rattle.vs_defs.specs.Answers.{Answers, FindsOf}
+use Rattle.vs_defs.specs.Bytes.{Bytes}
 use Rattle.vs_defs.specs.Bounds.{IsInBounds, IsAddInBounds}
 use Rattle.vs_defs.specs.Draws.{level_of}
 use Rattle.vs_defs.specs.History.{Entry, Preparation, IsPrefix}
@@ -34,7 +36,9 @@ use Rattle.vs_history.proofs.Histories.{store_push, legal_push}
 use Rattle.vs_store.specs.Drafts.{IsPrepared, WasReadyIn, MayCommit, CommitsBy}
 use Rattle.vs_store.proofs.Lasting.{may_commit_in}
 use Rattle.vs_command.specs.Outcomes.{refused_by as refused_outcome}
-use Rattle.vs_core.specs.Actors.{suits, error_of}
+use Rattle.vs_core.specs.declared.actor.Actor.{Actor as Kept}
+use Rattle.vs_core.specs.declared.actor.Actor.TheVariants.{Looking, Drafting as DraftingOf, Ready as ReadyOf}
+use Rattle.vs_core.specs.Actors.{actor_seen, is_idle, is_looking, is_drafting, is_ready, suits, error_of}
 use Rattle.vs_core.specs.Events.{refused_by}
 use Rattle.vs_core.specs.Turns.{StandsAt, Stands, Turned, Turns}
 use Rattle.vs_core.proofs.Standing.{of_idle, of_looking, of_drafting, of_ready}
@@ -91,6 +95,25 @@ unsuited_at limits s x a e t f = absurd t
 
 pub unsuited : (e : machine.Event) (old : Store Set) (was : Seen) → suits was e ≡ false → Turns e old was (error_of e) old was
 unsuited e old was f s a st = nothing old.limits s e a old was (error_of e) st (unsuited_at old.limits s was a e st.stands f)
+
+-- what the code's tests say of an actor
+pub idle_is : (x : Seen) → is_idle x ≡ true → x ≡ core.Idle
+idle_is core.Idle t = refl
+idle_is (core.IsLooking l) t = absurd (false≢true t)
+idle_is (core.IsDrafting d) t = absurd (false≢true t)
+idle_is (core.IsReady r) t = absurd (false≢true t)
+
+pub not_looking : (a : Kept) → ((l : core.Looked) → a ≡ Looking l → ⊥) → is_looking (actor_seen a) ≡ false
+not_looking (Looking l) other = absurd (other l refl)
+not_looking a other = refl
+
+pub not_drafting : (a : Kept) → ((d : core.Drafting) → a ≡ DraftingOf d → ⊥) → is_drafting (actor_seen a) ≡ false
+not_drafting (DraftingOf d) other = absurd (other d refl)
+not_drafting a other = refl
+
+pub not_ready : (a : Kept) → ((r : core.Ready) → a ≡ ReadyOf r → ⊥) → is_ready (actor_seen a) ≡ false
+not_ready (ReadyOf r) other = absurd (other r refl)
+not_ready a other = refl
 
 -- ---- a request that is done
 
@@ -257,7 +280,7 @@ module _ (old : Store Set) (k : ℕ) where
   prepared d r p s a st =
       let e = machine.Prepare k in
       of_drafting old.limits s.history (λ b. StandsAt old.limits s k b old (core.IsDrafting d) → Turned old.limits s b e machine.Prepared old (core.IsReady r)) d (λ place at st.
-      let preparation = record { place = place; chosen = names_down r.chosen } in
+      let preparation : Preparation = record { place = place; chosen = names_down r.chosen } in
       let chosen : IsChosen d.set d.add.bits (level_of d.drawn) d.add.ef (names_down r.chosen)
       = subst (λ n. IsChosen d.set d.add.bits n d.add.ef (names_down r.chosen)) (p.was.level ∙ ap level_of p.drawn) (subst (λ (x : Add). IsChosen d.set x.bits r.level x.ef (names_down r.chosen)) p.add p.was.chosen) in
       stays old.limits s e (machine.Drafting d.add d.drawn place) (machine.Ready d.add d.drawn preparation) old (core.IsDrafting d) (core.IsReady r) machine.Prepared st
@@ -281,3 +304,101 @@ module _ (old : Store Set) (k : ℕ) where
       let e = machine.Prepare k in
       of_drafting old.limits s.history (λ b. StandsAt old.limits s k b old (core.IsDrafting d) → Turned old.limits s b e machine.OutOfMemory old core.Idle) d (λ place at st.
       stays old.limits s e (machine.Drafting d.add d.drawn place) machine.Idle old (core.IsDrafting d) core.Idle machine.OutOfMemory st (inl (refl, refl)) tt) a st.stands st
+
+  -- ---- a commit
+
+  module _ (r : core.Ready) where
+    -- what the machine looks at for staleness is what the code looks at
+    stale_is : (limits : Limits) (s : State) (p : Preparation) → old ≡ store_of limits s.history → ReadyAt limits s.history r.add r.drawn p r
+        → machine.stale_from r.add p.chosen (set_of r.add.key (store_at limits s.history p.place)) (set_of r.add.key (store_of limits s.history)) ≡ stale_by r.cut r.add.name (set_of r.add.key old)
+    stale_is limits s p ends at =
+        ap (λ o. machine.stale_from r.add p.chosen o (set_of r.add.key (store_of limits s.history))) at.set_is
+        ∙ ap (λ n. stale_by n r.add.name (set_of r.add.key (store_of limits s.history))) (sym at.cut_is)
+        ∙ ap (λ (x : Store Set). stale_by r.cut r.add.name (set_of r.add.key x)) (sym ends)
+
+    pub redone : (new : Store Set) (cut_now : ℕ) (taken : Bool) (o : Outcome) → IsAddInBounds r.add → stale_by r.cut r.add.name (set_of r.add.key old) ≡ Some (cut_now, taken) → StoreDoes old (request.Vadd r.add) (r.drawn ∷ []) o new
+        → Turns (machine.Commit k) old (core.IsReady r) (machine.Redone cut_now taken o) new core.Idle
+    redone new cut_now taken o bounds why does s a st =
+        let e = machine.Commit k in
+        let result : machine.Outcome = machine.Redone cut_now taken o in
+        of_ready old.limits s.history (λ b. Turned old.limits s b e result new core.Idle) r (λ p at.
+        let d = done_at_once old.limits k s.history old new (request.Vadd r.add) (r.drawn ∷ []) o st.ends st.legal bounds refl does in
+        let t = with_actor s k machine.Idle d.history in record {
+          history = d.history;
+          after = machine.Idle;
+          happens = inr (subst (λ w. machine.CommitsBy old.limits w k r.add r.drawn p s result t) (sym (stale_is old.limits s p st.ends at ∙ why))
+              (record { answer = o; history = d.history; does = d.does; outcome = refl; state = refl }));
+          goes_on = d.goes_on;
+          ends = d.ends;
+          legal = d.legal;
+          stands = tt;
+        }) a st.stands
+
+    was_ready : (limits : Limits) (s : State) (p : Preparation) (at : ReadyAt limits s.history r.add r.drawn p r) → WasReadyIn at.set r
+    was_ready limits s p at = record {
+      draftable = at.draftable;
+      cut = at.cut_is;
+      level = at.level_is;
+      chosen = subst (IsChosen at.set r.add.bits r.level r.add.ef) (sym at.chosen_are) at.are_chosen;
+      bits = at.have_bits;
+    }
+
+    pub committed : (new : Store Set) (answer : Answer) → IsAddInBounds r.add → stale_by r.cut r.add.name (set_of r.add.key old) ≡ None → CommitsBy r old answer new
+        → Turns (machine.Commit k) old (core.IsReady r) (machine.Answered answer) new core.Idle
+    committed new answer bounds fresh commits s a st =
+        let result : machine.Outcome = machine.Answered answer in
+        of_ready old.limits s.history (λ b. Turned old.limits s b (machine.Commit k) result new core.Idle) r (λ p at.
+        let change = commits at.set (was_ready old.limits s p at) in
+        let e : Entry (Store Set) = record { author = k; request = request.Vadd r.add; words = r.drawn ∷ []; draft = Some p; answer = answer; store = new } in
+        let unrefused : store_refusal (plain (store_of old.limits s.history)) (request.Vadd r.add) ≡ None = subst (λ (x : Store Set). store_refusal (plain x) (request.Vadd r.add) ≡ None) st.ends change.unrefused in
+        let drafted : Option Drafted = Some (at.set, names_down r.chosen) in
+        let same : drafted ≡ Some (at.set, p.chosen) = ap (λ (c : List (List Bytes)). Some (at.set, c)) at.chosen_are in
+        let follows : Follows old.limits s.history e = record {
+          in_bounds = bounds;
+          words = refl;
+          unrefused = unrefused;
+          drafted = drafted;
+          draft = (at.set, same, record {
+            add = r.add;
+            is_add = refl;
+            cas = at.draftable.cas;
+            place = at.before;
+            set = at.set_is;
+            was_absent = at.draftable.absent;
+            stands = subst (λ n. stale_by n r.add.name (set_of r.add.key (store_of old.limits s.history)) ≡ None) at.cut_is (subst (λ (x : Store Set). stale_by r.cut r.add.name (set_of r.add.key x) ≡ None) st.ends fresh);
+          });
+          step = subst (λ (x : Store Set). Step x (request.Vadd r.add) (r.drawn ∷ []) answer new drafted) st.ends change.step;
+        } in
+        let history = s.history ++ e ∷ [] in
+        let t = with_actor s k machine.Idle history in record {
+          history = history;
+          after = machine.Idle;
+          happens = inr (subst (λ w. machine.CommitsBy old.limits w k r.add r.drawn p s result t) (sym (stale_is old.limits s p st.ends at ∙ fresh))
+              (subst (λ c. machine.CommitsUnlessRefused old.limits c k r.add r.drawn p s result t) (sym unrefused)
+              (record { entry = e; follows = follows; author = refl; request = refl; words = refl; draft = refl; outcome = refl; state = refl })));
+          goes_on = prefix_push s.history e;
+          ends = sym (store_push (empty_store old.limits) s.history e);
+          legal = legal_push (Follows old.limits) s.history e st.legal follows;
+          stands = tt;
+        }) a st.stands
+
+    pub commit_refused : (c : Option request.Refusal) → stale_by r.cut r.add.name (set_of r.add.key old) ≡ None → IfSome c (λ cause. store_refusal (plain old) (request.Vadd r.add) ≡ Some cause)
+        → Turns (machine.Commit k) old (core.IsReady r) (refused_by c) old core.Idle
+    commit_refused c fresh refused s a st =
+        of_ready old.limits s.history (λ b. StandsAt old.limits s k b old (core.IsReady r) → Turned old.limits s b (machine.Commit k) (refused_by c) old core.Idle) r (λ p at st.
+        stays old.limits s (machine.Commit k) (machine.Ready r.add r.drawn p) machine.Idle old (core.IsReady r) core.Idle (refused_by c) st (by c refused p at st) tt) a st.stands st
+      where
+        by : (c : Option request.Refusal) → IfSome c (λ cause. store_refusal (plain old) (request.Vadd r.add) ≡ Some cause) → (p : Preparation) → ReadyAt old.limits s.history r.add r.drawn p r
+            → StandsAt old.limits s k (machine.Ready r.add r.drawn p) old (core.IsReady r) → HappensAt old.limits (machine.Ready r.add r.drawn p) s (machine.Commit k) (refused_by c) (with_actor s k machine.Idle s.history)
+        by None refused p at st = inl (refl, refl)
+        by (Some cause) refused p at st =
+            let t = with_actor s k machine.Idle s.history in
+            inr (subst (λ w. machine.CommitsBy old.limits w k r.add r.drawn p s (machine.Refused cause) t) (sym (stale_is old.limits s p st.ends at ∙ fresh))
+            (subst (λ c. machine.CommitsUnlessRefused old.limits c k r.add r.drawn p s (machine.Refused cause) t) (refusal_is old.limits s (request.Vadd r.add) (Some cause) st.ends refused) (refl, refl)))
+
+-- a ready addition that isn't stale may be committed
+pub may_commit : DraftKeepsChosen → (old : Store Set) (r : core.Ready) → Stands old (core.IsReady r) → MayCommit old r
+may_commit laws old r (s, k, a, st) = of_ready old.limits s.history (λ b. MayCommit old r) r (λ p at now there fresh.
+    let kept = laws old.limits s.history r.add r.level p at.set now st.legal at.set_is (ap (set_of r.add.key) (sym st.ends) ∙ there) at.are_chosen
+    (subst (λ n. stale_by n r.add.name (Some now) ≡ None) at.cut_is fresh) in
+    may_commit_in at.set now r (was_ready old k r old.limits s p at) kept.0 kept.1 (subst (All (All (KeepsShape at.set.contents now.contents))) (sym at.chosen_are) kept.2)) a st.stands
