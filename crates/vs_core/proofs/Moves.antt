@@ -1,6 +1,6 @@
 -- One actor's turn as a step of the core, and steps in a row as a run.
-use Rattle.std.proofs.Common.{◌≡◌, ℕ, zero, suc, ◌+◌, ◌<◌, true, false, List, [], ◌∷◌, ◌++◌, length, map, replicate, get_or, refl, sym, ap, subst, ◌∙◌, arith, append_assoc, append-nil}
-use Rattle.std.specs.Prelude.{Option, Some, None, MatchOption, option_map, slice_get, slice_set}
+use Rattle.std.proofs.Common.{◌≡◌, ℕ, zero, suc, ◌+◌, ◌<◌, true, false, List, [], ◌∷◌, ◌++◌, length, replicate, get_or, refl, sym, ap, subst, ◌∙◌, arith, append_assoc, append-nil}
+use Rattle.std.specs.Prelude.{Some, None, MatchOption, option_map, slice_get, slice_set}
 use Rattle.std.proofs.lemmas.Bool.{false≢true}
 use Rattle.std.proofs.lemmas.List.{length-map}
 use Rattle.std.proofs.lemmas.Option.{slice_get-map, slice_get_read}
@@ -10,7 +10,7 @@ use Rattle.vs_thread_defs.specs.Core as core
 use Rattle.vs_thread_defs.specs.Core.{Core, Seen, StandsFor, ActorsStand}
 use Rattle.vs_thread_defs.specs.Interleaving as machine
 use Rattle.vs_thread_defs.specs.Interleaving.{State, Actor, Event, Outcome, Happens, HappensAt, Run, actor_at, actor_of, with_actor}
-use Rattle.vs_thread_defs.specs.Machine.{GraphHistory, GraphLegal, Follows, store_of}
+use Rattle.vs_thread_defs.specs.Machine.{GraphHistory, Follows, store_of}
 use Rattle.vs_history.proofs.Histories.{store_push}
 use Rattle.vs_core.specs.declared.actor.Actor.{Actor as Kept}
 use Rattle.vs_core.specs.declared.actor.Actor.TheVariants.{Idle}

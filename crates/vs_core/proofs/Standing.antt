@@ -1,10 +1,10 @@
 -- Actors stand on where the history has grown, and where one of them is changed; and who stands at a number.
-use Rattle.std.proofs.Common.{◌≡◌, ℕ, zero, suc, ◌≤◌, List, [], ◌∷◌, ◌++◌, length, map, replicate, refl, sym, ap, subst, ◌∙◌, arith, length-append}
-use Rattle.std.specs.Prelude.{Some, None, option_map, slice_get, slice_set}
+use Rattle.std.proofs.Common.{◌≡◌, ℕ, zero, suc, ◌≤◌, List, [], ◌∷◌, ◌++◌, length, replicate, refl, sym, ap, subst, ◌∙◌, arith, length-append}
+use Rattle.std.specs.Prelude.{Some, None, slice_get, slice_set}
 use Rattle.std.proofs.lemmas.List.{take-append-le}
 use Rattle.std.proofs.lemmas.Option.{none-some}
 use Rattle.vs_defs.specs.History.{Preparation}
-use Rattle.vs_defs.specs.Store.{Set, Limits, set_of}
+use Rattle.vs_defs.specs.Store.{Limits, set_of}
 use Rattle.vs_thread_defs.specs.Machine.{GraphHistory, store_of, store_at}
 use Rattle.vs_thread_defs.specs.Interleaving as machine
 use Rattle.vs_thread_defs.specs.Interleaving.{Actor}
@@ -59,15 +59,15 @@ module _ (limits : Limits) where
   pub of_drafting : (h : GraphHistory) (P : Actor → Type 0) (d : core.Drafting) → ((place : ℕ) → DraftedAt limits h d.add d.drawn place d → P (machine.Drafting d.add d.drawn place)) → (a : Actor) → ActorStands limits h (core.IsDrafting d) a → P a
   of_drafting h P d f (machine.Drafting add drawn place) s =
       subst (λ w. P (machine.Drafting add w place)) s.drawn_is (
-          subst (λ x. P (machine.Drafting x d.drawn place)) s.add_is (
-              f place (subst (λ x. DraftedAt limits h x d.drawn place d) (sym s.add_is) (subst (λ w. DraftedAt limits h add w place d) (sym s.drawn_is) s))))
+      subst (λ x. P (machine.Drafting x d.drawn place)) s.add_is (
+      f place (subst (λ x. DraftedAt limits h x d.drawn place d) (sym s.add_is) (subst (λ w. DraftedAt limits h add w place d) (sym s.drawn_is) s))))
   of_drafting h P d f a s = absurd s
 
   pub of_ready : (h : GraphHistory) (P : Actor → Type 0) (r : core.Ready) → ((p : Preparation) → ReadyAt limits h r.add r.drawn p r → P (machine.Ready r.add r.drawn p)) → (a : Actor) → ActorStands limits h (core.IsReady r) a → P a
   of_ready h P r f (machine.Ready add drawn p) s =
       subst (λ w. P (machine.Ready add w p)) s.drawn_is (
-          subst (λ x. P (machine.Ready x r.drawn p)) s.add_is (
-              f p (subst (λ x. ReadyAt limits h x r.drawn p r) (sym s.add_is) (subst (λ w. ReadyAt limits h add w p r) (sym s.drawn_is) s))))
+      subst (λ x. P (machine.Ready x r.drawn p)) s.add_is (
+      f p (subst (λ x. ReadyAt limits h x r.drawn p r) (sym s.add_is) (subst (λ w. ReadyAt limits h add w p r) (sym s.drawn_is) s))))
   of_ready h P r f a s = absurd s
 
   -- ---- all actors

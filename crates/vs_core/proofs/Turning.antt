@@ -4,8 +4,8 @@
 --     looked, look_refused, finished, finish_starved
 --     redone, committed, commit_refused, may_commit
 --     direct, drafted, draft_refused, prepared, prepare_starved
-use Rattle.std.proofs.Common.{◌≡◌, ◌⊎◌, ℕ, zero, suc, ◌≤◌, List, [], ◌∷◌, ◌++◌, length, take, refl, sym, ap, subst, ◌∙◌, arith, inl, inr}
-use Rattle.std.specs.Prelude.{Option, Some, None, Bool, true, false, not, ◌==◌, IsTrue, IfSome, MatchOption, MatchBool, All, slice_get, slice_set}
+use Rattle.std.proofs.Common.{◌≡◌, ◌⊎◌, ℕ, zero, suc, List, [], ◌∷◌, ◌++◌, length, refl, sym, ap, subst, ◌∙◌, arith, inl, inr}
+use Rattle.std.specs.Prelude.{Option, Some, None, Bool, true, false, IfSome, MatchOption, MatchBool, All, slice_get, slice_set}
 use Rattle.std.proofs.lemmas.Bool.{false≢true}
 use Rattle.std.proofs.Common.{true≢false}
 use Rattle.std.proofs.lemmas.List.{take_all}
@@ -358,15 +358,19 @@ module _ (old : Store Set) (k : ℕ) where
           words = refl;
           unrefused = unrefused;
           drafted = drafted;
-          draft = (at.set, same, record {
-            add = r.add;
-            is_add = refl;
-            cas = at.draftable.cas;
-            place = at.before;
-            set = at.set_is;
-            was_absent = at.draftable.absent;
-            stands = subst (λ n. stale_by n r.add.name (set_of r.add.key (store_of old.limits s.history)) ≡ None) at.cut_is (subst (λ (x : Store Set). stale_by r.cut r.add.name (set_of r.add.key x) ≡ None) st.ends fresh);
-          });
+          draft = (
+            at.set,
+            same,
+            record {
+              add = r.add;
+              is_add = refl;
+              cas = at.draftable.cas;
+              place = at.before;
+              set = at.set_is;
+              was_absent = at.draftable.absent;
+              stands = subst (λ n. stale_by n r.add.name (set_of r.add.key (store_of old.limits s.history)) ≡ None) at.cut_is (subst (λ (x : Store Set). stale_by r.cut r.add.name (set_of r.add.key x) ≡ None) st.ends fresh);
+            },
+          );
           step = subst (λ (x : Store Set). Step x (request.Vadd r.add) (r.drawn ∷ []) answer new drafted) st.ends change.step;
         } in
         let history = s.history ++ e ∷ [] in

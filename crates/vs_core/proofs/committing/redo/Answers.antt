@@ -1,7 +1,6 @@
 use Rattle.std.proofs.Common.{[], ◌∷◌, subst}
 use Rattle.vs_defs.specs.Request as request
 use Rattle.vs_thread_defs.specs.Machine.{StoreDoes}
-use Rattle.vs_bits.specs.Requests.{add_of}
 use Rattle.vs_command.specs.Outcomes.{outcome_of}
 use Rattle.vs_core.proofs.Turning.{redone}
 use Rattle.vs_core.proofs.committing.redo.Goals as goal

@@ -1,5 +1,5 @@
-use Rattle.std.proofs.Common.{◌≡◌, Some, sym, ap, ◌∙◌}
-use Rattle.vs_core.specs.Actors.{actor_seen, busy_of, seen_at}
+use Rattle.std.proofs.Common.{sym, ap, ◌∙◌}
+use Rattle.vs_core.specs.Actors.{actor_seen, busy_of}
 use Rattle.vs_core.proofs.Moves.{seen_there, busy_idle, busy_other}
 use Rattle.vs_core.proofs.stepping.Core.busy.Goals as goal
 
