@@ -143,3 +143,127 @@ fn errors_in_order(rt: HostRuntime) -> Result<(), Fail> {
     )?;
     Ok(())
 }
+
+/// `a` and `b` in the set `k`, on a core with three actors.
+fn core_of_two(rt: &impl Abort, alloc: Global) -> Result<Core, AllocError> {
+    let mut core = Core::new(alloc, 3, Limits::usual())?;
+    let lines = [
+        (1, "do", "VADD k VALUES 1 1 a", "1"),
+        (1, "do", "VADD k VALUES 1 -1 b", "1"),
+    ];
+    check_on(rt, alloc, &mut core, &lines)?;
+    Ok(core)
+}
+
+#[test]
+fn looks_answered_later(rt: HostRuntime) -> Result<(), Fail> {
+    let alloc = rt.alloc();
+    let mut core = core_of_two(&rt, alloc)?;
+    check_on(
+        &rt,
+        alloc,
+        &mut core,
+        &[
+            (1, "look", "VSIM k ELE a", "looked"),
+            (2, "do", "VREM k a", "1"),
+            (2, "look", "VSIM k ELE a", "NoSuchElement"),
+            (2, "look", "VSIM k ELE b", "looked"),
+            (3, "do", "DEL k", "1"),
+            (1, "finish", "", "2 hits"),
+            (2, "finish", "", "1 hits"),
+        ],
+    )?;
+    Ok(())
+}
+
+#[test]
+fn stale_commits_redone(rt: HostRuntime) -> Result<(), Fail> {
+    let alloc = rt.alloc();
+    let mut core = core_of_two(&rt, alloc)?;
+    check_on(
+        &rt,
+        alloc,
+        &mut core,
+        &[
+            (1, "draft", "VADD k VALUES 1 1 c CAS", "drafted"),
+            (2, "draft", "VADD k VALUES 1 1 c CAS", "drafted"),
+            (3, "draft", "VADD k VALUES 1 1 d CAS", "drafted"),
+            (1, "commit", "", "ActorIdle"),
+            (1, "prepare", "", "ready"),
+            (2, "prepare", "", "ready"),
+            (3, "prepare", "", "ready"),
+            (1, "commit", "", "1"),
+            (2, "commit", "", "redone at 1 true: 0"),
+            (3, "commit", "", "redone at 4 false: 1"),
+            (3, "draft", "VADD k VALUES 1 1 d CAS", "direct"),
+            (1, "do", "VCARD k", "4"),
+        ],
+    )?;
+    Ok(())
+}
+
+#[test]
+fn a_commit_of_a_key_that_is_gone(rt: HostRuntime) -> Result<(), Fail> {
+    let alloc = rt.alloc();
+    let mut core = core_of_two(&rt, alloc)?;
+    check_on(
+        &rt,
+        alloc,
+        &mut core,
+        &[
+            (1, "draft", "VADD k VALUES 1 1 c CAS", "drafted"),
+            (1, "prepare", "", "ready"),
+            (2, "do", "DEL k", "1"),
+            (1, "commit", "", "redone at 0 false: 1"),
+            (1, "do", "VCARD k", "1"),
+        ],
+    )?;
+    Ok(())
+}
+
+#[test]
+fn sixty_four_actors(rt: HostRuntime) -> Result<(), Fail> {
+    let alloc = rt.alloc();
+    let mut core = Core::new(alloc, 64, Limits::usual())?;
+    check_on(
+        &rt,
+        alloc,
+        &mut core,
+        &[(64, "do", "VADD k VALUES 1 1 a", "1")],
+    )?;
+    for actor in 1..65 {
+        check_on(
+            &rt,
+            alloc,
+            &mut core,
+            &[(actor, "look", "VSIM k ELE a", "looked")],
+        )?;
+    }
+    assert_eq!(&rt; core.busy(64), Some(StepError::ActorBusy));
+    assert_eq!(&rt; core.busy(65), Some(StepError::NoSuchActor));
+    check_on(&rt, alloc, &mut core, &[(65, "finish", "", "NoSuchActor")])?;
+    for actor in 1..65 {
+        check_on(&rt, alloc, &mut core, &[(actor, "finish", "", "1 hits")])?;
+    }
+    assert_eq!(&rt; core.busy(64), None);
+    Ok(())
+}
+
+#[test]
+fn a_run_of_events(rt: HostRuntime) -> Result<(), Fail> {
+    let alloc = rt.alloc();
+    let mut core = core_of_two(&rt, alloc)?;
+    let mut events = List::new(alloc);
+    events.push(begun(&rt, alloc, 1, "look", "VSIM k ELE a")?)?;
+    events.push(begun(&rt, alloc, 2, "do", "VREM k a")?)?;
+    events.push(Event::Finish { actor: 1 })?;
+    events.push(Event::Finish { actor: 1 })?;
+    let outcomes = core.run(events)?;
+    let mut shown = String::new(alloc);
+    for outcome in outcomes.into_vec() {
+        shown.push_str(show(alloc, outcome)?.as_str())?;
+        shown.push_str("; ")?;
+    }
+    assert_eq!(&rt; shown.as_str(), "looked; 1; 2 hits; ActorIdle; ");
+    Ok(())
+}
