@@ -17,3 +17,4 @@ pub mod Additions
 pub mod Counted
 pub mod Entered
 pub mod Taken
+pub mod Lasting
