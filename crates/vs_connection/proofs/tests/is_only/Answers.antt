@@ -1,4 +1,4 @@
-use Rattle.std.proofs.Common.{◌≡◌, ◌≤◌, ◌<◌, ℕ, [], ◌∷◌, false, length, get_or, ap, sym, subst, ◌∙◌, arith}
+use Rattle.std.proofs.Common.{◌≡◌, ◌≤◌, ◌<◌, [], ◌∷◌, false, length, get_or, ap, sym, subst, ◌∙◌, arith}
 use Rattle.vs_defs.specs.Bytes.{Bytes, is_word}
 use Rattle.vs_defs.specs.Stream.{Message}
 use Rattle.vs_connection.proofs.tests.is_only.Goals as goal
