@@ -1,2 +1,4 @@
 pub mod Committing
 pub mod Starved
+pub mod Wanting
+pub mod Tasks
