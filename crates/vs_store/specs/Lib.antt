@@ -1,4 +1,9 @@
 pub mod Seen
 pub mod Kept
+pub mod Places
+pub mod Causes
 pub mod Snapshots
 pub mod Drafts
+pub mod Gone
+pub mod Leaving
+pub mod Fresh
