@@ -1,5 +1,5 @@
 -- A draft that isn't stale may be committed: whoever was chosen stands there still, with the bits that they had.
-use Rattle.std.proofs.Common.{◌≡◌, ℕ, ◌<◌, ◌≤◌, ◌+◌, ◌-◌, Bool, true, false, cond, List, [], length, map, refl, sym, ap, ◌∙◌, subst, inl, inr, arith, get_or}
+use Rattle.std.proofs.Common.{◌≡◌, ℕ, ◌<◌, ◌≤◌, ◌+◌, ◌-◌, Bool, true, false, cond, List, [], length, map, refl, sym, ap, ◌∙◌, subst, inl, inr, arith, get_or, Ok}
 use Rattle.std.specs.Prelude.{Option, Some, None, IsTrue, IsSomeAnd, All, not, ◌==◌, option_map, unwrap_or, slice_get}
 use Rattle.std.proofs.lemmas.Bool.{cases_lt, leb-true}
 use Rattle.std.proofs.lemmas.Bool.Decides.{Decides-eqb}
@@ -19,7 +19,9 @@ use Rattle.vs_insert.specs.Chosen.{AreLayerNames, AreChosenNames}
 use Rattle.vs_insert.proofs.Lists.{chosen_names}
 use Rattle.vs_store.specs.Drafts.{WasReadyIn, IsPrepared, AreThere, MayCommit, MayCommitIn}
 use Rattle.vs_pass.specs.Task.{Holding}
-use Rattle.vs_shared.specs.Calls.{IsReadyAfter, prepared_after}
+use Rattle.vs_shared.specs.declared.begun.Begun.{Begun}
+use Rattle.vs_shared.specs.declared.begun.Begun.TheVariants.{Drafted}
+use Rattle.vs_shared.specs.Calls.{DraftAnswers, IsReadyAfter, prepared_after}
 use Rattle.vs_pass.proofs.Tasks.{at_the_end, at_a_beginning}
 
 -- ---- one of the chosen
@@ -132,18 +134,29 @@ module _ (limits : Limits) (s : GraphHistory) (ready : core.Ready) (at : IsReady
       (subst (λ (cut : ℕ). stale_by cut ready.add.name (Some now) ≡ None) at.cut_is fresh) in
       may_commit_in at.set now ready was_ready kept.0 kept.1 kept.2
 
+-- what a call of draft says of the draft that it hands out
+pub drafted_at : (limits : Limits) (k : ℕ) (s t : GraphHistory) (add : Add) (drawn : ℕ) (begun : Begun) (d : core.Drafting) → DraftAnswers limits k s add drawn (Ok begun) t → begun ≡ Drafted d → DraftedAt limits t add drawn (length t) d
+drafted_at limits k s t add drawn begun d call is = (subst (λ (b : Begun). DraftAnswers limits k s add drawn (Ok b) t) is call).1
+
 -- what was drafted and then prepared may be committed
-pub ready_after : (limits : Limits) (t : GraphHistory) (add : Add) (drawn : ℕ) (d : core.Drafting) (ready : core.Ready) → DraftedAt limits t add drawn (length t) d → IsPrepared d ready → IsReadyAfter limits t ready
-ready_after limits t add drawn d ready at prepared = record {
-  before = omega arith;
-  add_is = refl;
-  drawn_is = refl;
-  set = d.set;
-  set_is = ap (λ (a : Add). set_of a.key (store_at limits t (length t))) (prepared.add ∙ at.add_is) ∙ at.set_is;
-  draftable = prepared.was.draftable;
-  cut_is = prepared.was.cut;
-  level_is = prepared.was.level;
-  chosen_are = refl;
-  are_chosen = prepared.was.chosen;
-  have_bits = prepared.was.bits;
-}
+module _ (limits : Limits) (t : GraphHistory) (add : Add) (drawn : ℕ) (d : core.Drafting) (ready : core.Ready) (at : DraftedAt limits t add drawn (length t) d) (prepared : IsPrepared d ready) where
+  pub ready_add : ready.add ≡ add
+  ready_add = prepared.add ∙ at.add_is
+
+  pub ready_drawn : ready.drawn ≡ drawn
+  ready_drawn = prepared.drawn ∙ at.drawn_is
+
+  pub ready_after : IsReadyAfter limits t ready
+  ready_after = record {
+    before = omega arith;
+    add_is = refl;
+    drawn_is = refl;
+    set = d.set;
+    set_is = ap (λ (a : Add). set_of a.key (store_at limits t (length t))) ready_add ∙ at.set_is;
+    draftable = prepared.was.draftable;
+    cut_is = prepared.was.cut;
+    level_is = prepared.was.level;
+    chosen_are = refl;
+    are_chosen = prepared.was.chosen;
+    have_bits = prepared.was.bits;
+  }

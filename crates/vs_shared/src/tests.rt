@@ -5,7 +5,7 @@ mod calls;
 mod mixed;
 
 use crate::Opened;
-use calls::{at_once, commit, drafted, request};
+use calls::{at_once, drafted, request};
 use std::alloc::Global;
 use std::marker::Brand;
 use std::process::Abort;
@@ -16,6 +16,7 @@ use std::thread::Threads;
 use vs_command::Answer;
 use vs_history::TableName;
 use vs_pass::Pass;
+use vs_slot::Slot;
 use vs_store::Limits;
 
 #[test]
@@ -74,22 +75,23 @@ fn drafted_by_two<N: TableName, R: Wait + Abort>(
     let mut first = passes.pop().ok_or("two passes")?;
     let made = at_once(rt, alloc, &shared, &mut first, "VADD k VALUES 3 1 -1 1 a")?;
     assert!(rt; matches!(made, Ok(Answer::Int(1))));
+    let mut slot = Slot::new(alloc);
     // Two names: neither draft is stale.
     let b = request(rt, alloc, "VADD k VALUES 3 1 1 1 b CAS")?;
     let c = request(rt, alloc, "VADD k VALUES 3 1 -1 -1 c CAS")?;
-    let of_first = drafted(rt, &shared, &mut first, &b, 7)?;
-    let of_second = drafted(rt, &shared, &mut second, &c, 7)?;
-    let answer = commit(rt, &shared, &mut first, &b, 7, of_first)?;
+    let of_first = drafted(rt, &shared, &mut first, &b, 7, &mut slot)?;
+    let of_second = drafted(rt, &shared, &mut second, &c, 7, &mut slot)?;
+    let answer = shared.commit(rt, &mut first, &b, 7, of_first, &mut slot);
     assert!(rt; matches!(answer, Ok(Answer::Int(1))));
-    let answer = commit(rt, &shared, &mut second, &c, 7, of_second)?;
+    let answer = shared.commit(rt, &mut second, &c, 7, of_second, &mut slot);
     assert!(rt; matches!(answer, Ok(Answer::Int(1))));
     // One name: the later commit finds it taken, and replaces the member.
     let d = request(rt, alloc, "VADD k VALUES 3 -1 1 1 d CAS")?;
-    let of_first = drafted(rt, &shared, &mut first, &d, 7)?;
-    let of_second = drafted(rt, &shared, &mut second, &d, 7)?;
-    let answer = commit(rt, &shared, &mut first, &d, 7, of_first)?;
+    let of_first = drafted(rt, &shared, &mut first, &d, 7, &mut slot)?;
+    let of_second = drafted(rt, &shared, &mut second, &d, 7, &mut slot)?;
+    let answer = shared.commit(rt, &mut first, &d, 7, of_first, &mut slot);
     assert!(rt; matches!(answer, Ok(Answer::Int(1))));
-    let answer = commit(rt, &shared, &mut second, &d, 7, of_second)?;
+    let answer = shared.commit(rt, &mut second, &d, 7, of_second, &mut slot);
     assert!(rt; matches!(answer, Ok(Answer::Int(0))));
     assert_eq!(rt; second.known(), 5);
     shared.meet(&mut first, &mut second);

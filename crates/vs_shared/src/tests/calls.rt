@@ -1,11 +1,11 @@
 //! What a pass does with a line of words.
 ghost use Rattle.std.specs.Prelude.{◌≡◌, ◌<◌, IfOk, IsTrue};
-ghost use Rattle.vs_defs.specs.Bounds.{IsInBounds};
+ghost use Rattle.vs_defs.specs.Bounds.{IsInBounds, IsSearchInBounds};
 ghost use Rattle.vs_defs.specs.Request as requests;
 ghost use Rattle.vs_command.specs.Readings.{AreShort};
-ghost use Rattle.vs_command.specs.Requests.{request_of};
+ghost use Rattle.vs_command.specs.Requests.{request_of, search_of};
 ghost use Rattle.vs_store.specs.Drafts.{IsPrepared};
-ghost use Rattle.vs_shared.specs.Calls.{IsDoneAtOnce, HasCas, IsReadyAfter};
+ghost use Rattle.vs_shared.specs.Calls.{IsDoneAtOnce, IsReadyAfter};
 
 use crate::{Begun, Shared};
 use std::alloc::{AllocError, Global};
@@ -13,7 +13,7 @@ use std::marker::Brand;
 use std::process::Abort;
 use std::sync::Wait;
 use std::sync::ledger::{Blank, Ledger};
-use vs_command::{Answer, Refusal, Request, draws, read_request};
+use vs_command::{Answer, Refusal, Request, Search, draws, read_request};
 use vs_graph::Steps;
 use vs_history::TableName;
 use vs_outside::{List, NoMemory, Text};
@@ -48,15 +48,6 @@ fn is_done_at_once(request: &Request) -> bool
     }
 }
 
-fn has_cas(request: &Request) -> bool
-    ensures { IsTrue result → HasCas (request_of request.now) }
-{
-    match request {
-        Request::Vadd(add) => add.cas,
-        _ => false,
-    }
-}
-
 /// The request of a line.
 pub(super) fn request(rt: &impl Abort, alloc: Global, line: &str) -> Result<Request, NoMemory>
     ensures { IfOk result (λ r. IsInBounds (request_of r)) }
@@ -70,6 +61,26 @@ pub(super) fn request(rt: &impl Abort, alloc: Global, line: &str) -> Result<Requ
     }
 }
 
+/// Does a request at once.
+fn done<N: TableName, R: Wait + Abort>(
+    rt: &R,
+    alloc: Global,
+    shared: &Shared<N>,
+    pass: &mut Pass<N>,
+    request: &Request,
+) -> Result<Outcome, NoMemory>
+    requires bounds { IsInBounds (request_of request.now) }
+{
+    assert!(rt; is_done_at_once(request));
+    let count = draws(request);
+    let words = pass.draw(alloc, count)?;
+    assert!(rt; words.len() == count as usize);
+    let mut slot = shared.take_slot(rt)?;
+    let outcome = shared.now(rt, pass, request, words.as_slice(), &mut slot);
+    shared.give_slot(rt, slot);
+    Ok(outcome)
+}
+
 /// Does the line's request at once.
 pub(super) fn at_once<N: TableName, R: Wait + Abort>(
     rt: &R,
@@ -79,14 +90,7 @@ pub(super) fn at_once<N: TableName, R: Wait + Abort>(
     line: &str,
 ) -> Result<Outcome, NoMemory> {
     let request = request(rt, alloc, line)?;
-    assert!(rt; is_done_at_once(&request));
-    let count = draws(&request);
-    let words = pass.draw(alloc, count)?;
-    assert!(rt; words.len() == count as usize);
-    let mut slot = shared.take_slot(rt)?;
-    let outcome = shared.now(rt, pass, &request, words.as_slice(), &mut slot);
-    shared.give_slot(rt, slot);
-    Ok(outcome)
+    done(rt, alloc, shared, pass, &request)
 }
 
 fn prepared<L: Ledger>(drafting: Drafting, slot: &mut Slot, blank: Blank) -> Result<Ready, NoMemory>
@@ -108,50 +112,72 @@ fn found<L: Ledger>(looked: Looked, slot: &mut Slot, blank: Blank) -> Result<Ans
     Store::finish(looked, slot, &mut reads)
 }
 
-/// Drafts the request, and prepares its draft.
+/// Drafts an addition with CAS, and prepares its draft.
 pub(super) fn drafted<N: TableName, R: Wait + Abort>(
     rt: &R,
     shared: &Shared<N>,
     pass: &mut Pass<N>,
     request: &Request,
     word: u32,
+    slot: &mut Slot,
 ) -> Result<Ready, NoMemory>
     requires bounds { IsInBounds (request_of request.now) }
     ensures ready { IfOk result (λ ready. IsReadyAfter N.limits pass.new.seen ready) }
     ensures request { IfOk result (λ ready. request_of request.now ≡ requests.Vadd ready.add) }
     ensures word { IfOk result (λ ready. word ≡ ready.drawn) }
 {
-    assert!(rt; has_cas(request));
-    let mut slot = shared.take_slot(rt)?;
-    let Ok(Begun::Drafted(drafting)) = shared.draft(rt, pass, request, word, &mut slot) else {
-        panic!(rt; "no draft");
+    let Request::Vadd(add) = request else {
+        panic!(rt; "no addition")
     };
-    let ready = prepared::<Brand>(drafting, &mut slot, Blank::new(1))?;
-    shared.give_slot(rt, slot);
-    Ok(ready)
+    assert!(rt; add.cas);
+    match shared.draft(rt, pass, request, word, slot) {
+        Ok(Begun::Drafted(drafting)) => prepared::<Brand>(drafting, slot, Blank::new(1)),
+        _ => panic!(rt; "no draft"),
+    }
 }
 
-/// Commits what `drafted` gave.
-pub(super) fn commit<N: TableName, R: Wait + Abort>(
+/// Does an addition with CAS in its three steps.
+fn add_in_steps<N: TableName, R: Wait + Abort>(
     rt: &R,
     shared: &Shared<N>,
     pass: &mut Pass<N>,
     request: &Request,
     word: u32,
-    ready: Ready,
+    slot: &mut Slot,
 ) -> Result<Outcome, NoMemory>
     requires bounds { IsInBounds (request_of request.now) }
-    requires ready { IsReadyAfter N.limits pass.old.seen ready }
-    requires request { request_of request.now ≡ requests.Vadd ready.add }
-    requires word { word ≡ ready.drawn }
 {
-    let mut slot = shared.take_slot(rt)?;
-    let outcome = shared.commit(rt, pass, request, word, ready, &mut slot);
-    shared.give_slot(rt, slot);
-    Ok(outcome)
+    let Request::Vadd(add) = request else {
+        panic!(rt; "no addition")
+    };
+    assert!(rt; add.cas);
+    match shared.draft(rt, pass, request, word, slot) {
+        Err(refusal) => Ok(Err(refusal)),
+        Ok(Begun::Done(answer)) => Ok(Ok(answer)),
+        Ok(Begun::Drafted(drafting)) => {
+            let ready = prepared::<Brand>(drafting, slot, Blank::new(1))?;
+            Ok(shared.commit(rt, pass, request, word, ready, slot))
+        }
+    }
 }
 
-/// Does the line's request: a search in two steps, an addition with CAS in three.
+/// Does a search in its two steps.
+fn search_in_steps<N: TableName, R: Wait>(
+    rt: &R,
+    shared: &Shared<N>,
+    pass: &mut Pass<N>,
+    search: &Search,
+    slot: &mut Slot,
+) -> Result<Outcome, NoMemory>
+    requires bounds { IsSearchInBounds (search_of search.now) }
+{
+    match shared.look(rt, pass, search) {
+        Err(refusal) => Ok(Err(refusal)),
+        Ok(looked) => Ok(Ok(found::<Brand>(looked, slot, Blank::new(1))?)),
+    }
+}
+
+/// Does a request, a search or an addition with CAS in steps.
 pub(super) fn call<N: TableName, R: Wait + Abort>(
     rt: &R,
     alloc: Global,
@@ -161,26 +187,13 @@ pub(super) fn call<N: TableName, R: Wait + Abort>(
 ) -> Result<Outcome, NoMemory> {
     let request = request(rt, alloc, line)?;
     if is_done_at_once(&request) {
-        return at_once(rt, alloc, shared, pass, line);
+        return done(rt, alloc, shared, pass, &request);
     }
     let mut slot = shared.take_slot(rt)?;
-    if let Request::Vsim(search) = &request {
-        let looked = shared.look(rt, pass, search);
-        return Ok(match looked {
-            Ok(looked) => Ok(found::<Brand>(looked, &mut slot, Blank::new(1))?),
-            Err(refusal) => Err(refusal),
-        });
-    }
-    assert!(rt; has_cas(&request));
-    let words = pass.draw(alloc, 1)?;
-    assert!(rt; words.len() == 1);
-    let word = words[0];
-    match shared.draft(rt, pass, &request, word, &mut slot) {
-        Ok(Begun::Done(answer)) => Ok(Ok(answer)),
-        Err(refusal) => Ok(Err(refusal)),
-        Ok(Begun::Drafted(drafting)) => {
-            let ready = prepared::<Brand>(drafting, &mut slot, Blank::new(1))?;
-            commit(rt, shared, pass, &request, word, ready)
-        }
-    }
+    let outcome = match &request {
+        Request::Vsim(search) => search_in_steps(rt, shared, pass, search, &mut slot),
+        _ => add_in_steps(rt, shared, pass, &request, 7, &mut slot),
+    };
+    shared.give_slot(rt, slot);
+    outcome
 }

@@ -20,6 +20,30 @@ const THREADS: u32 = 8;
 
 const REQUESTS: u32 = 200;
 
+/// The additions come first: each that is answered is a change.
+const ADDITIONS: usize = 10;
+
+const LINES: [&str; 18] = [
+    "VADD k VALUES 4 1 -1 1 1 a",
+    "VADD k VALUES 4 -1 1 1 -1 b CAS",
+    "VADD k VALUES 4 1 1 -1 -1 c CAS",
+    "VADD k VALUES 4 -1 -1 1 1 d CAS",
+    "VADD k VALUES 4 1 -1 -1 1 e CAS SETATTR x",
+    "VADD l VALUES 4 1 1 1 1 a CAS",
+    "VADD l VALUES 4 -1 1 1 1 b CAS",
+    "VADD l VALUES 4 1 -1 1 -1 c CAS",
+    "VADD l VALUES 4 1 -1 1 -1 d",
+    "VADD l VALUES 3 1 -1 1 e",
+    "VREM k a",
+    "VREM k c",
+    "VREM l b",
+    "VSETATTR k b x",
+    "VSIM k VALUES 4 1 1 1 1",
+    "VSIM l ELE a NOTHREAD",
+    "VSIM k ELE b TRUTH",
+    "DEL l",
+];
+
 /// A pass, and how many changes of its own were accepted.
 #[derive(Drop)]
 struct Worker<N: TableName> {
@@ -71,27 +95,18 @@ fn changed_by_eight<N: TableName + Send + Sync, R: Threads + Wait + Abort + Sync
     Ok(())
 }
 
-/// Does a request that the pass's next words choose, and says whether it was an accepted change.
+/// Does the request that the pass's next word chooses, and says whether it was an accepted change.
 fn turn<N: TableName, R: Wait + Abort>(
     rt: &R,
     alloc: Global,
     shared: &Shared<N>,
     pass: &mut Pass<N>,
 ) -> Result<bool, NoMemory> {
-    let words = pass.draw(alloc, 4)?;
-    assert!(rt; words.len() == 4);
-    let (key, name, sign) = (words[0] % 3, words[1] % 16, words[2] % 2);
-    let line = match words[3] % 32 {
-        0..8 => format!(in alloc; "VADD k{key} VALUES 4 1 -1 {sign} 1 n{name}")?,
-        8..20 => format!(in alloc; "VADD k{key} VALUES 4 -1 1 {sign} -1 n{name} CAS")?,
-        20..25 => format!(in alloc; "VREM k{key} n{name}")?,
-        25..28 => format!(in alloc; "VSETATTR k{key} n{name} {name}")?,
-        28..31 => format!(in alloc; "VSIM k{key} VALUES 4 1 1 1 1")?,
-        _ => format!(in alloc; "DEL k{key}")?,
-    };
-    let is_addition = line.as_str().starts_with("VADD");
-    Ok(match call(rt, alloc, shared, pass, line.as_str())? {
-        Ok(Answer::Int(number)) => is_addition || number > 0,
-        _ => false,
-    })
+    let words = pass.draw(alloc, 1)?;
+    assert!(rt; words.len() == 1);
+    let choice = words[0] as usize % LINES.len();
+    match call(rt, alloc, shared, pass, LINES[choice])? {
+        Ok(Answer::Int(number)) => Ok(choice < ADDITIONS || number > 0),
+        _ => Ok(false),
+    }
 }

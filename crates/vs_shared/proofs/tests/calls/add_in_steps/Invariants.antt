@@ -1,0 +1,4 @@
+use Rattle.vs_shared.proofs.tests.calls.add_in_steps.Given as goal
+
+abbrev pub ghosts-prepared : goal.ghosts-prepared
+ghosts-prepared g a = record { name = a.blank.name; parts = 1 }

@@ -1,0 +1,4 @@
+use Rattle.vs_shared.proofs.tests.two_threads_add.Given as goal
+
+abbrev pub ghosts-added_by_two : goal.ghosts-added_by_two
+ghosts-added_by_two g a = record { table = a.opened.table; limits = a.opened.limits }
