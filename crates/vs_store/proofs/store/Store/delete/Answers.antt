@@ -1,16 +1,15 @@
-use Rattle.std.proofs.Common.{◌≡◌, ℕ, ◌+◌, ◌-◌, ◌<◌, ◌≤◌, [], List, true, false, sym, ap, ◌∙◌, subst, arith, inl, inr, pos}
+use Rattle.std.proofs.Common.{◌≡◌, ◌+◌, ◌-◌, ◌<◌, [], true, false, sym, ap, ◌∙◌, subst, arith, inl, inr, pos}
 use mir.Syntax.{w64}
 use mir.Val.{to_z, of_z}
-use Rattle.std.specs.Prelude.{None, is_some}
+use Rattle.std.specs.Prelude.{None}
 use Rattle.std.specs.List.{list_any}
 use Rattle.std.proofs.lemmas.Int.{ints}
 use Rattle.vs_defs.specs.Answers.{Answers}
-use Rattle.vs_defs.specs.Bytes.{Bytes}
 use Rattle.vs_defs.specs.Request as request
-use Rattle.vs_defs.specs.Store.{Set, Store, set_of}
-use Rattle.vs_thread_defs.specs.Machine.{StoreChanges, StoreDoes}
+use Rattle.vs_defs.specs.Store.{Set, Store}
+use Rattle.vs_thread_defs.specs.Machine.{StoreChanges}
 use Rattle.vs_store.specs.Gone.{seen}
-use Rattle.vs_store.specs.Seen.{store_seen, limits_seen}
+use Rattle.vs_store.specs.Seen.{store_seen}
 use Rattle.vs_store.proofs.Deleted.{has, deletes, deletes-none, kept-left, refuses-deletion}
 use Rattle.vs_store.proofs.store.Store.delete.Goals as goal
 use Rattle.vs_store.proofs.store.Store.delete.Goals.{then-gone-gt0, else-gone-gt0}
