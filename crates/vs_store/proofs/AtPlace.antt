@@ -1,5 +1,5 @@
 -- A set at a place of the entries that are kept, and what is written there.
-use Rattle.std.proofs.Common.{◌≡◌, ℕ, ◌<◌, length, map, refl, ap, ◌∙◌, sym, subst, arith}
+use Rattle.std.proofs.Common.{◌≡◌, ℕ, ◌<◌, length, map, ap, ◌∙◌, sym, subst, arith}
 use Rattle.std.specs.Prelude.{Some, slice_get}
 use Rattle.std.specs.Map.{values_of}
 use Rattle.std.proofs.lemmas.List.{length-map}

@@ -1,6 +1,6 @@
 -- VSETATTR: what it makes of the store.
-use Rattle.std.proofs.Common.{◌≡◌, ℕ, ◌+◌, ◌<◌, ◌≤◌, Bool, true, cond, List, [], length, map, refl, sym, ap, ◌∙◌, subst, arith, inl, inr}
-use Rattle.std.specs.Prelude.{◌≢◌, Result, Option, Some, None, option_map}
+use Rattle.std.proofs.Common.{◌≡◌, ℕ, ◌+◌, ◌<◌, ◌≤◌, true, cond, [], length, refl, sym, ap, ◌∙◌, subst, arith, inl, inr}
+use Rattle.std.specs.Prelude.{Result, Some, None, option_map}
 use Rattle.std.specs.Result.{IsErrAnd}
 use Rattle.std.proofs.lemmas.Bool.{cases_Bool}
 use Rattle.std.proofs.lemmas.List.{length-map}
@@ -11,7 +11,7 @@ use Rattle.vs_defs.specs.PlainStep as plain_step
 use Rattle.vs_defs.specs.Refuse.{is_change, in_set}
 use Rattle.vs_defs.specs.Request as request
 use Rattle.vs_defs.specs.Step.{wiring_at}
-use Rattle.vs_defs.specs.Store.{Member, Contents, Set, Store, AnswerAlike, with_set, with_option, is_of_name, is_member, set_of, plain}
+use Rattle.vs_defs.specs.Store.{Member, Set, Store, AnswerAlike, with_option, is_of_name, is_member, set_of, plain}
 use Rattle.vs_defs.proofs.Keys.{same_is}
 use Rattle.vs_thread_defs.specs.Machine.{StoreChanges, StoreDoes}
 use Rattle.vs_command.specs.Outcomes.{outcome_of}

@@ -1,7 +1,7 @@
 -- DEL: what it makes of the store, where a key is there and where none is.
 use Rattle.std.proofs.Common.{◌≡◌, ℕ, ◌+◌, ◌<◌, ◌≤◌, Bool, true, false, cond, List, [], ◌∷◌, length, map, refl, sym, ap, ◌∙◌, subst, arith, pos}
 use Rattle.std.specs.Result.{IsErrAnd}
-use Rattle.std.specs.Prelude.{Result, Option, Some, None, IfSome, All, not, is_some, option_map, sum_by, count_by}
+use Rattle.std.specs.Prelude.{Result, Option, Some, None, IfSome, All, not, is_some, option_map, count_by}
 use Rattle.std.specs.List.{list_any}
 use Rattle.std.proofs.lemmas.List.Elements.{All-filter}
 use Rattle.std.proofs.lemmas.List.Filters.{length-filter_both}
@@ -9,10 +9,10 @@ use Rattle.std.proofs.lemmas.List.Sums.{length-filter, sum_by-cons}
 use Rattle.vs_defs.specs.Answers.{Answers}
 use Rattle.vs_defs.specs.Bytes.{Bytes, listed}
 use Rattle.vs_defs.specs.Good.{Good, GoodStore}
-use Rattle.vs_defs.specs.Refuse.{store_refusal, is_change, has_key}
+use Rattle.vs_defs.specs.Refuse.{is_change}
 use Rattle.vs_defs.specs.Request as request
 use Rattle.vs_defs.specs.Step.{wiring_at}
-use Rattle.vs_defs.specs.Store.{Contents, Set, Store, Wiring, AnswerAlike, HasKeysOnce, lookup_set, without_keys, set_of, plain}
+use Rattle.vs_defs.specs.Store.{Contents, Set, Store, AnswerAlike, lookup_set, without_keys, set_of, plain}
 use Rattle.vs_defs.proofs.Keys.{plain_at}
 use Rattle.vs_thread_defs.specs.Machine.{StoreChanges, StoreDoes}
 use Rattle.vs_command.specs.Outcomes.{outcome_of}
@@ -27,7 +27,7 @@ use Rattle.vs_store.proofs.Counted.{has_plain}
 use Rattle.vs_store.proofs.Edits.{once-map}
 use Rattle.vs_store.proofs.Gone.{all_alike, lookup_without}
 use Rattle.vs_store.proofs.Limited.{refuses-limited}
-use Rattle.vs_store.proofs.Sets.{bare, members_in}
+use Rattle.vs_store.proofs.Sets.{bare}
 
 -- ---- whether a key is there
 

@@ -1,8 +1,8 @@
 -- Sets by their keys, some of which were taken out from wherever they stood, with the last in their place.
 --     popped_..      one was taken out
 --     begun, one_gone, none_gone      those of the listed keys, key by key
-use Rattle.std.proofs.Common.{◌≡◌, ℕ, zero, suc, ◌+◌, ◌<◌, ◌≤◌, Bool, true, false, cond, List, [], ◌∷◌, ◌++◌, length, map, get_or, position, take, refl, sym, ap, ◌∙◌, subst, arith, inl, inr, IsPermutation}
-use Rattle.std.specs.Prelude.{◌≢◌, ◌||◌, Option, Some, None, All, AllPairs, IfSome, not, is_some, option_map, slice_get, sum_by, count_by, swap_remove}
+use Rattle.std.proofs.Common.{◌≡◌, ℕ, suc, ◌+◌, ◌<◌, Bool, true, false, cond, List, [], ◌∷◌, ◌++◌, length, get_or, position, take, refl, sym, ap, ◌∙◌, subst, arith, inl, inr, IsPermutation}
+use Rattle.std.specs.Prelude.{◌≢◌, ◌||◌, Option, Some, None, All, IfSome, not, is_some, option_map, slice_get, sum_by, swap_remove}
 use Rattle.std.specs.Global.{Vec}
 use Rattle.std.specs.List.{list_any, IsDistinct}
 use Rattle.std.specs.Cmp.{IsEquivalence}
@@ -12,22 +12,20 @@ use Rattle.std.proofs.lemmas.Cmp.{nat_list_eq_equiv}
 use Rattle.std.proofs.lemmas.List.{get_or-map, length-map, get_or_default, take_more}
 use Rattle.std.proofs.lemmas.List.Folds.{list_any-append}
 use Rattle.std.proofs.lemmas.List.Kept.{AllPairs-filter}
-use Rattle.std.proofs.lemmas.List.Filters.{length-filter_both}
 use Rattle.std.proofs.lemmas.List.Quantifiers.{position-Some}
 use Rattle.std.proofs.lemmas.List.Sorted.{IsPermutation-map, IsPermutation-swap_remove, length_permutation, sum_by_popped, All-permutation}
-use Rattle.std.proofs.lemmas.List.Sums.{length-filter}
 use Rattle.std.proofs.lemmas.Map.Entries.{All-lookup}
 use Rattle.std.proofs.lemmas.Map.Keys.{IsDistinct-IsPermutation}
 use Rattle.std.proofs.lemmas.Map.Made.{IsDistinct-from_AllPairs, AllPairs-from_IsDistinct}
 use Rattle.std.proofs.lemmas.Map.Views.{All-values_from_lookup}
-use Rattle.std.proofs.lemmas.Option.{none-some, same_Some, get_or_from_slice_get, slice_get_within, slice_get-map}
+use Rattle.std.proofs.lemmas.Option.{none-some, get_or_from_slice_get, slice_get_within, slice_get-map}
 use Rattle.std.proofs.lemmas.Slice.Eq.{bytes_eq-Decides}
 use Rattle.indexmap.specs.IndexMap.{swap_remove_entry}
 use Rattle.indexmap.proofs.MapLemmas.{Found-position, some_index, swap_remove_entry-found, lookup_permutation}
 use Rattle.vs_defs.specs.Bytes.{Bytes, same_name, listed}
 use Rattle.vs_defs.specs.Store.{Set, lookup_set, without_keys, AnswerAlike, HasKeysOnce}
 use Rattle.vs_defs.proofs.Keys.{same_is, kept_set, gone_set}
-use Rattle.vs_store.specs.Gone.{seen, count_in, AreGone}
+use Rattle.vs_store.specs.Gone.{seen, AreGone}
 use Rattle.vs_store.proofs.Edits.{same_self, other_order, differs, once-head, once-tail}
 
 names_equal : IsEquivalence same_name

@@ -1,6 +1,6 @@
 -- A change other than VADD is refused for the limit of changes alone.
-use Rattle.std.proofs.Common.{◌≡◌, ℕ, ◌≤◌, true, List, refl, sym, ap, ◌∙◌, subst}
-use Rattle.std.specs.Prelude.{Result, Option, Some, None}
+use Rattle.std.proofs.Common.{◌≡◌, ℕ, ◌≤◌, true, List, sym, ap, ◌∙◌, subst}
+use Rattle.std.specs.Prelude.{Result, None}
 use Rattle.std.specs.Result.{IsErrAnd}
 use Rattle.vs_defs.specs.Refuse.{store_refusal, own_refusal, is_change, change_limit}
 use Rattle.vs_defs.specs.Request.{Request}

@@ -1,18 +1,18 @@
 -- VREM: what it makes of the store, where others are left in the set and where the set goes.
 use Rattle.std.proofs.Common.{◌≡◌, ℕ, ◌+◌, ◌-◌, ◌<◌, ◌≤◌, Bool, true, false, cond, List, [], ◌∷◌, length, map, refl, sym, ap, ◌∙◌, subst, arith, inl, inr, IsPermutation}
 use Rattle.std.specs.Result.{IsErrAnd}
-use Rattle.std.specs.Prelude.{◌≢◌, ◌⊎◌, Result, Option, Some, None, IfSome, All, option_map, slice_get, slice_set, sum_by}
+use Rattle.std.specs.Prelude.{Result, Option, Some, None, option_map, slice_get, sum_by}
 use Rattle.std.proofs.lemmas.List.{length-map}
 use Rattle.std.proofs.lemmas.List.Sorted.{IsPermutation-map}
 use Rattle.std.proofs.lemmas.List.{length-take-le}
 use Rattle.std.proofs.lemmas.List.Sums.{sum_by-set}
 use Rattle.std.proofs.lemmas.Option.{get_or_from_slice_get, slice_get_within}
-use Rattle.vs_defs.specs.Bytes.{Bytes, same_name, last_in}
+use Rattle.vs_defs.specs.Bytes.{Bytes, last_in}
 use Rattle.vs_defs.specs.Good.{Good, GoodStore}
 use Rattle.vs_defs.specs.PlainStep.{removed, unless_empty, drop_none, one}
 use Rattle.vs_defs.specs.Refuse.{is_change, in_set}
 use Rattle.vs_defs.specs.Request as request
-use Rattle.vs_defs.specs.Step.{OthersKeep, TakesOut}
+use Rattle.vs_defs.specs.Step.{TakesOut}
 use Rattle.vs_defs.specs.Store.{Member, Contents, Set, Store, AnswerAlike, HasKeysOnce, with_option, without_member, put_last_at, all_but_last, is_of_name, is_member, set_of, plain}
 use Rattle.vs_thread_defs.specs.Machine.{StoreChanges, StoreDoes}
 use Rattle.vs_command.specs.Outcomes.{outcome_of}
@@ -22,10 +22,10 @@ use Rattle.vs_command.specs.declared.refusal.Refusal.TheVariants.{ChangeLimit}
 use Rattle.vs_set.specs.Changed.{RemovesMember}
 use Rattle.vs_set.specs.Kept.{IsSound}
 use Rattle.vs_store.specs.Kept.{IsKept}
-use Rattle.vs_store.specs.Leaving.{LeavesOthers, Leaves}
+use Rattle.vs_store.specs.Leaving.{Leaves}
 use Rattle.vs_store.specs.Places.{IsSetAt}
 use Rattle.vs_store.proofs.Causes.{change-limited, limit-free}
-use Rattle.vs_store.proofs.Changes.{plain_set, has_some, written_at, found-written, wirings-written, alike-written, keys-written, good-written, kept-written}
+use Rattle.vs_store.proofs.Changes.{plain_set, written_at, found-written, wirings-written, alike-written, keys-written, good-written, kept-written}
 use Rattle.vs_store.proofs.Edits.{at-place, differs, once-map}
 use Rattle.vs_store.proofs.Gone.{popped_once, popped_others, popped_none, popped_alike, popped_long, popped_all, popped_sum}
 use Rattle.vs_store.proofs.Limited.{refuses-limited}

@@ -1,11 +1,10 @@
-use Rattle.std.proofs.Common.{◌≡◌, ◌<◌, List, [], ◌∷◌, true, length, sym, ap, ◌∙◌, subst, arith, inl, inr}
+use Rattle.std.proofs.Common.{◌≡◌, ◌<◌, List, [], ◌∷◌, true, length, ap, ◌∙◌, subst, arith, inl, inr}
 use Rattle.std.specs.Prelude.{Result, Ok, Err, OnOk, OnErr}
 use Rattle.std.proofs.lemmas.Bool.{false≢true}
 use Rattle.vs_defs.specs.Bytes.{Bytes}
 use Rattle.vs_defs.specs.Store.{Member, Set, is_member}
 use Rattle.vs_set.specs.Changed.{RemovesMember}
 use Rattle.vs_set.specs.Kept.{IsSound}
-use Rattle.vs_store.specs.Gone.{seen}
 use Rattle.vs_store.proofs.AtPlace.{place_within, rewritten}
 use Rattle.vs_store.proofs.Gone.{taken_by_place}
 use Rattle.vs_store.proofs.Sets.{value_at, written}

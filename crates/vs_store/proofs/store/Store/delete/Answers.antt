@@ -1,16 +1,15 @@
-use Rattle.std.proofs.Common.{◌≡◌, ℕ, ◌+◌, ◌-◌, ◌<◌, ◌≤◌, [], List, true, false, sym, ap, ◌∙◌, subst, arith, inl, inr, pos}
+use Rattle.std.proofs.Common.{◌≡◌, ◌+◌, ◌-◌, ◌<◌, [], true, false, sym, ap, ◌∙◌, subst, arith, inl, inr, pos}
 use mir.Syntax.{w64}
 use mir.Val.{to_z, of_z}
-use Rattle.std.specs.Prelude.{None, is_some}
+use Rattle.std.specs.Prelude.{None}
 use Rattle.std.specs.List.{list_any}
 use Rattle.std.proofs.lemmas.Int.{ints}
 use Rattle.vs_defs.specs.Answers.{Answers}
-use Rattle.vs_defs.specs.Bytes.{Bytes}
 use Rattle.vs_defs.specs.Request as request
-use Rattle.vs_defs.specs.Store.{Set, Store, set_of}
-use Rattle.vs_thread_defs.specs.Machine.{StoreChanges, StoreDoes}
+use Rattle.vs_defs.specs.Store.{Set, Store}
+use Rattle.vs_thread_defs.specs.Machine.{StoreChanges}
 use Rattle.vs_store.specs.Gone.{seen}
-use Rattle.vs_store.specs.Seen.{store_seen, limits_seen}
+use Rattle.vs_store.specs.Seen.{store_seen}
 use Rattle.vs_store.proofs.Deleted.{has, deletes, deletes-none, kept-left, refuses-deletion}
 use Rattle.vs_store.proofs.store.Store.delete.Goals as goal
 use Rattle.vs_store.proofs.store.Store.delete.Goals.{then-gone-gt0, else-gone-gt0}
@@ -55,7 +54,10 @@ returns-clause-does c =
       | else-gone-gt0 w ↦
           let zero : gone ≡ 0 = omega (arith, w.if-gone-gt0.false) in
           let none = are.none zero in
-          let same : c.if-gone-gt0.self ≡ c.args.self.now = w.self-is ∙ ap (λ l. record { sets = l; changes = s.changes; limits = s.limits }) none.0 ∙ c.self.view_is in
+          let left : Store Set = record { sets = sets; changes = s.changes; limits = s.limits } in
+          let is : c.if-gone-gt0.self ≡ left = w.self-is in
+          let kept : left ≡ s = ap (λ l. record { sets = l; changes = s.changes; limits = s.limits }) none.0 in
+          let same : c.if-gone-gt0.self ≡ c.args.self.now = is ∙ kept ∙ c.self.view_is in
           let absent : list_any (has c.args.self.now) keys ≡ false = ap (λ (t : Store Set). list_any (has t) keys) (sym c.self.view_is) ∙ none.1 in
           inr (same, subst (λ a. Answers c.args.self.now r [] a) (sym (ap request.Int (value ∙ ap pos zero))) (deletes-none c.args.self.now keys absent))
     ]

@@ -1,7 +1,7 @@
-use Rattle.std.proofs.Common.{◌≡◌, sym, ap, ◌∙◌}
+use Rattle.std.proofs.Common.{sym, ap, ◌∙◌}
 use Rattle.std.specs.Prelude.{Some, None}
 use Rattle.vs_defs.specs.Refuse.{in_set}
-use Rattle.vs_defs.specs.Store.{Set, Store, is_member}
+use Rattle.vs_defs.specs.Store.{Set, is_member}
 use Rattle.vs_store.proofs.AtPlace.{at_seen, place_within}
 use Rattle.vs_store.proofs.Changes.{plain_set}
 use Rattle.vs_store.proofs.Sets.{value_at}

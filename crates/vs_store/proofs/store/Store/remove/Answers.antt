@@ -1,6 +1,5 @@
-use Rattle.std.proofs.Common.{◌≡◌, ℕ, ◌+◌, ◌-◌, ◌<◌, ◌≤◌, [], List, refl, sym, ap, ◌∙◌, subst, arith, inl}
-use Rattle.std.specs.Prelude.{Some, None, slice_get}
-use Rattle.vs_defs.specs.Bytes.{Bytes}
+use Rattle.std.proofs.Common.{◌≡◌, ◌+◌, ◌-◌, ◌<◌, [], sym, ap, ◌∙◌, subst, arith, inl}
+use Rattle.std.specs.Prelude.{None}
 use Rattle.vs_defs.specs.PlainStep.{one}
 use Rattle.vs_defs.specs.Request as request
 use Rattle.vs_defs.specs.Store.{Set, Store}

@@ -1,5 +1,4 @@
 use Rattle.std.proofs.Common.{ap, ◌∙◌, List}
-use Rattle.std.specs.Prelude.{Some, None}
 use Rattle.vs_defs.specs.Request as request
 use Rattle.vs_defs.specs.Store.{set_of}
 use Rattle.vs_command.specs.Answers.{hits_of}

@@ -1,10 +1,10 @@
-use Rattle.std.proofs.Common.{◌≡◌, ℕ, ◌+◌, ◌<◌, ◌≤◌, [], List, length, map, refl, sym, ap, ◌∙◌, subst, arith, inl}
+use Rattle.std.proofs.Common.{◌≡◌, ◌+◌, ◌<◌, ◌≤◌, [], length, sym, ap, ◌∙◌, subst, arith, inl}
 use Rattle.std.specs.Prelude.{Some, None}
 use Rattle.indexmap.specs.IndexMap.{set_value_at}
 use Rattle.vs_defs.specs.Bytes.{Bytes}
 use Rattle.vs_defs.specs.PlainStep.{one}
 use Rattle.vs_defs.specs.Request as request
-use Rattle.vs_defs.specs.Store.{Set, Store, plain}
+use Rattle.vs_defs.specs.Store.{Set, Store}
 use Rattle.vs_thread_defs.specs.Machine.{StoreChanges}
 use Rattle.vs_set.specs.Changed.{attributed}
 use Rattle.vs_store.specs.Kept.{IsKept}
@@ -14,7 +14,7 @@ use Rattle.vs_store.proofs.Attributed.{attributes, long-attributed, refuses_attr
 use Rattle.vs_store.proofs.Causes.{wants}
 use Rattle.vs_store.proofs.Changes.{has_some, written_at, kept-written}
 use Rattle.vs_store.proofs.Edits.{at-place}
-use Rattle.vs_store.proofs.Sets.{see, written, value_at}
+use Rattle.vs_store.proofs.Sets.{written, value_at}
 use Rattle.vs_store.proofs.store.Store.set_attribute.Goals as goal
 
 pub returns-in_err-number-clause-does : goal.returns-in_err-number-clause-does
