@@ -1,5 +1,5 @@
 -- What a commit needs of the set of its key, and what it makes of the store, for whatever set the addition was drafted in.
-use Rattle.std.proofs.Common.{◌≡◌, ℕ, ◌+◌, ◌<◌, Bool, true, false, ◌∷◌, [], length, refl, sym, ap, ◌∙◌, subst, is_some}
+use Rattle.std.proofs.Common.{◌≡◌, ℕ, ◌+◌, ◌<◌, true, false, length, refl, sym, ap, ◌∙◌, subst, is_some}
 use Rattle.std.specs.Prelude.{Option, Some, None, MatchOption}
 use Rattle.std.proofs.lemmas.Bool.{both_ways}
 use Rattle.vs_defs.specs.Words.{FitsDimension, bits_of_words}

@@ -1,13 +1,12 @@
 -- The entries that a store keeps, after the commit of a ready addition that is neither stale nor refused: what it needs of the set at the
 -- place of its key, and what is kept.
 use Rattle.std.proofs.Common.{◌≡◌, ℕ, ◌+◌, ◌<◌, ◌≤◌, ◌^◌, Bool, true, false, not, cond, ◌||◌, ◌∷◌, [], length, refl, sym, ap, ◌∙◌, subst, arith, length-append, map}
-use Rattle.std.specs.Prelude.{Option, Some, None, ◌==◌, option_map, unwrap_or, slice_get}
+use Rattle.std.specs.Prelude.{Some, None, ◌==◌, option_map, unwrap_or, slice_get}
 use Rattle.std.specs.Map.{values_of}
 use Rattle.std.proofs.lemmas.Option.{none-some}
 use Rattle.indexmap.specs.IndexMap.{set_value_at}
 use Rattle.vs_defs.specs.Bytes.{Bytes}
 use Rattle.vs_defs.specs.Counts.{commit_reads}
-use Rattle.vs_defs.specs.Good.{GoodStore}
 use Rattle.vs_defs.specs.PlainStep.{one}
 use Rattle.vs_defs.specs.Refuse.{store_refusal}
 use Rattle.vs_defs.specs.Request as request

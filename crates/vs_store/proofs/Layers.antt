@@ -1,14 +1,13 @@
 -- The chosen of a ready addition: by layer from 0 up as contracts see them, from the highest layer down as the definitions write them.
 use Rattle.std.proofs.Common.{◌≡◌, ◌≢◌, ℕ, ◌+◌, ◌-◌, ◌<◌, ◌≤◌, List, [], ◌∷◌, length, map, reverse, get_or, refl, sym, ap, ◌∙◌, subst, arith, inl, inr}
-use Rattle.std.specs.Prelude.{Some, None, Option, IsTrue, IsSomeAnd, option_map, unwrap_or, slice_get, nat_le, All, AllPairs}
+use Rattle.std.specs.Prelude.{Some, None, Option, IsTrue, IsSomeAnd, option_map, unwrap_or, slice_get, All, AllPairs}
 use Rattle.std.proofs.lemmas.Bool.{cases_lt, leb-true, false≢true, le-leb}
 use Rattle.std.proofs.lemmas.List.{length-map, length-reverse, get_or-map, get_or-reverse, get_or_past}
 use Rattle.std.proofs.lemmas.List.Elements.{All-map}
-use Rattle.std.proofs.lemmas.Option.{none-some, same_Some, unwrap_or-slice_get}
+use Rattle.std.proofs.lemmas.Option.{same_Some, unwrap_or-slice_get}
 use Rattle.indexmap.proofs.ReorderLemmas.{map-reverse}
 use Rattle.vs_defs.specs.Bytes.{Bytes}
 use Rattle.vs_defs.specs.Vector.{Vector}
-use Rattle.vs_defs.specs.Words.{bits_of_words}
 use Rattle.vs_defs.specs.Links.{reaches, stands_at}
 use Rattle.vs_defs.specs.Store.{Member, Set, member_of}
 use Rattle.vs_thread_defs.specs.Core as core
@@ -16,7 +15,7 @@ use Rattle.vs_insert.specs.declared.draft.Chosen.{Chosen}
 use Rattle.vs_insert.specs.Chosen.{AreLayerNames, AreChosenNames}
 use Rattle.vs_insert.specs.Drafts.{names_of, names_down, chosen_at}
 use Rattle.vs_set.specs.Drafted as set
-use Rattle.vs_store.specs.Drafts.{chosen_seen, IsThere, AreThere}
+use Rattle.vs_store.specs.Drafts.{chosen_seen, AreThere}
 
 -- ---- names
 

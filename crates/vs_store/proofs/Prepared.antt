@@ -1,14 +1,13 @@
 -- What a preparation in the set of a draft gives is ready there.
-use Rattle.std.proofs.Common.{◌≡◌, ℕ, ◌+◌, ◌-◌, ◌<◌, ◌≤◌, Bool, true, false, not, cond, List, [], ◌∷◌, length, map, refl, sym, ap, ◌∙◌, subst}
-use Rattle.std.specs.Prelude.{Option, Some, None, ◌==◌, All}
+use Rattle.std.proofs.Common.{◌≡◌, ℕ, Bool, true, false, not, List, ◌∷◌, length, map, refl, sym, ap, ◌∙◌, subst}
+use Rattle.std.specs.Prelude.{None, ◌==◌, All}
 use Rattle.std.proofs.lemmas.Bool.Decides.{Decides-eqb}
 use Rattle.std.proofs.lemmas.List.{length-map, length-reverse}
 use Rattle.std.proofs.lemmas.Option.{none-some}
-use Rattle.vs_defs.specs.Vector.{Vector}
 use Rattle.vs_defs.specs.Words.{bits_of_words}
 use Rattle.vs_defs.specs.Draws.{level_of}
 use Rattle.vs_defs.specs.Insertion.{IsChosen}
-use Rattle.vs_defs.specs.Refuse.{first_cause, wrong_dimension, wrong_m}
+use Rattle.vs_defs.specs.Refuse.{first_cause, wrong_m}
 use Rattle.vs_defs.specs.Request as request
 use Rattle.vs_defs.specs.Store.{Contents, Set}
 use Rattle.vs_thread_defs.specs.Core as core
@@ -16,12 +15,10 @@ use Rattle.vs_thread_defs.specs.Core.{IsDraftable, Suits}
 use Rattle.vs_bits.specs.declared.add.Add.{Add}
 use Rattle.vs_bits.specs.Requests.{add_of}
 use Rattle.vs_graph.specs.declared.node.Body.{Body}
-use Rattle.vs_insert.specs.declared.draft.Chosen.{Chosen}
 use Rattle.vs_insert.specs.declared.draft.Draft.{Draft}
 use Rattle.vs_insert.specs.Chosen.{AreChosenNames}
-use Rattle.vs_insert.specs.Drafts.{names_down}
 use Rattle.vs_set.specs.Drafted.{IsDraft}
-use Rattle.vs_store.specs.Drafts.{IsPrepared, WasReadyIn, MayCommitIn, ready_seen, chosen_seen}
+use Rattle.vs_store.specs.Drafts.{IsPrepared, ready_seen, chosen_seen}
 use Rattle.vs_store.proofs.Layers.{chosen_there, have_bits, names_same}
 
 dim_by : (b : Bool) (r : request.Refusal) (rest : List (Bool × request.Refusal)) → first_cause ((not b, r) ∷ rest) ≡ None → b ≡ true

@@ -7,7 +7,7 @@ use Rattle.std.proofs.lemmas.List.Elements.{All-head, All-tail}
 use Rattle.std.proofs.lemmas.Option.{none-some, same_Some}
 use Rattle.vs_defs.specs.Bounds.{IsAddInBounds, IsSearchInBounds}
 use Rattle.vs_defs.specs.Bytes.{Bytes, same_name}
-use Rattle.vs_defs.specs.Refuse.{store_refusal, search_refusal, change_limit}
+use Rattle.vs_defs.specs.Refuse.{store_refusal, search_refusal}
 use Rattle.vs_defs.specs.Request as request
 use Rattle.vs_defs.specs.Store.{Contents, Set, Store, is_member, is_of_name, lookup_set, set_of, plain}
 use Rattle.vs_thread_defs.specs.Interleaving.{can_draft_in}
@@ -18,7 +18,7 @@ use Rattle.vs_set.specs.Kept.{IsSound}
 use Rattle.vs_set.proofs.Places.{has_place}
 use Rattle.vs_store.specs.Causes.{IsCause}
 use Rattle.vs_store.specs.Kept.{IsKept}
-use Rattle.vs_store.specs.Snapshots.{Suits, IsLook, IsDraft}
+use Rattle.vs_store.specs.Snapshots.{IsLook, IsDraft}
 use Rattle.vs_store.proofs.Changes.{plain_set}
 use Rattle.vs_store.proofs.Refusing.{fits}
 
