@@ -135,9 +135,7 @@ fn attributes(rt: HostRuntime) -> Result<(), Fail> {
         ("VSETATTR k a", "WrongArity"),
     ];
     check_on(&rt, alloc, &mut store, &cases)?;
-    let Some(set) = store.set_at(b"k") else {
-        unreachable!(&rt; "the key was added");
-    };
+    let set = store.set_at(b"k").expect(&rt, "the key was added");
     assert_eq!(&rt; set.attribute_count(), 1);
     assert_eq!(&rt; set.cut(), 1);
     assert_eq!(&rt; store.changes(), 4);

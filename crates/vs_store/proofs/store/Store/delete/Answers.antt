@@ -55,7 +55,10 @@ returns-clause-does c =
       | else-gone-gt0 w ↦
           let zero : gone ≡ 0 = omega (arith, w.if-gone-gt0.false) in
           let none = are.none zero in
-          let same : c.if-gone-gt0.self ≡ c.args.self.now = w.self-is ∙ ap (λ l. record { sets = l; changes = s.changes; limits = s.limits }) none.0 ∙ c.self.view_is in
+          let left : Store Set = record { sets = sets; changes = s.changes; limits = s.limits } in
+          let is : c.if-gone-gt0.self ≡ left = w.self-is in
+          let kept : left ≡ s = ap (λ l. record { sets = l; changes = s.changes; limits = s.limits }) none.0 in
+          let same : c.if-gone-gt0.self ≡ c.args.self.now = is ∙ kept ∙ c.self.view_is in
           let absent : list_any (has c.args.self.now) keys ≡ false = ap (λ (t : Store Set). list_any (has t) keys) (sym c.self.view_is) ∙ none.1 in
           inr (same, subst (λ a. Answers c.args.self.now r [] a) (sym (ap request.Int (value ∙ ap pos zero))) (deletes-none c.args.self.now keys absent))
     ]
