@@ -72,35 +72,16 @@ unchanged-free s r t = ap (λ b. cond (b && nat_le s.limits.changes s.changes) (
 
 -- ---- room
 
-pub full-set : (s : PlainStore) (n : ℕ) → s.limits.set ≤ n → option_or (no_room s n) (limited s) ≡ Some (request.FullSet n)
-full-set s n h = ap (λ b. option_or (cond b (Some (request.FullSet n)) (first_cause ((is_full_all s, full_all s) ∷ []))) (limited s)) (le-leb s.limits.set n h)
-
-room-in-set : (s : PlainStore) (n : ℕ) → n < s.limits.set → option_or (no_room s n) (limited s) ≡ option_or (first_cause ((is_full_all s, full_all s) ∷ [])) (limited s)
-room-in-set s n h = ap (λ b. option_or (cond b (Some (request.FullSet n)) (first_cause ((is_full_all s, full_all s) ∷ []))) (limited s)) (lt-leb s.limits.set n h)
-
-pub full-keys : (s : PlainStore) → s.limits.keys ≤ length s.sets → option_or (add_key s) (limited s) ≡ Some (request.FullKeys (length s.sets))
-full-keys s h = ap (λ b. option_or (cond b (Some (request.FullKeys (length s.sets))) (first_cause ((is_full_all s, full_all s) ∷ []))) (limited s)) (le-leb s.limits.keys (length s.sets) h)
-
-room-for-key : (s : PlainStore) → length s.sets < s.limits.keys → option_or (add_key s) (limited s) ≡ option_or (first_cause ((is_full_all s, full_all s) ∷ [])) (limited s)
-room-for-key s h = ap (λ b. option_or (cond b (Some (request.FullKeys (length s.sets))) (first_cause ((is_full_all s, full_all s) ∷ []))) (limited s)) (lt-leb s.limits.keys (length s.sets) h)
-
-all-full : (s : PlainStore) → s.limits.all ≤ member_count s → option_or (first_cause ((is_full_all s, full_all s) ∷ [])) (limited s) ≡ Some (request.FullAll (member_count s))
-all-full s h = ap (λ b. option_or (first_cause ((b, full_all s) ∷ [])) (limited s)) (le-leb s.limits.all (member_count s) h)
-
 room-for-all : (s : PlainStore) → member_count s < s.limits.all → option_or (first_cause ((is_full_all s, full_all s) ∷ [])) (limited s) ≡ limited s
 room-for-all s h = ap (λ b. option_or (first_cause ((b, full_all s) ∷ [])) (limited s)) (lt-leb s.limits.all (member_count s) h)
 
-pub full-all-for-member : (s : PlainStore) (n : ℕ) → n < s.limits.set → s.limits.all ≤ member_count s → option_or (no_room s n) (limited s) ≡ Some (request.FullAll (member_count s))
-full-all-for-member s n set all = room-in-set s n set ∙ all-full s all
+limit-alone-for-member : (s : PlainStore) (n : ℕ) → n < s.limits.set → member_count s < s.limits.all → option_or (no_room s n) (limited s) ≡ limited s
+limit-alone-for-member s n set all =
+    ap (λ b. option_or (cond b (Some (request.FullSet n)) (first_cause ((is_full_all s, full_all s) ∷ []))) (limited s)) (lt-leb s.limits.set n set) ∙ room-for-all s all
 
-pub full-all-for-key : (s : PlainStore) → length s.sets < s.limits.keys → s.limits.all ≤ member_count s → option_or (add_key s) (limited s) ≡ Some (request.FullAll (member_count s))
-full-all-for-key s keys all = room-for-key s keys ∙ all-full s all
-
-pub limit-alone-for-member : (s : PlainStore) (n : ℕ) → n < s.limits.set → member_count s < s.limits.all → option_or (no_room s n) (limited s) ≡ limited s
-limit-alone-for-member s n set all = room-in-set s n set ∙ room-for-all s all
-
-pub limit-alone-for-key : (s : PlainStore) → length s.sets < s.limits.keys → member_count s < s.limits.all → option_or (add_key s) (limited s) ≡ limited s
-limit-alone-for-key s keys all = room-for-key s keys ∙ room-for-all s all
+limit-alone-for-key : (s : PlainStore) → length s.sets < s.limits.keys → member_count s < s.limits.all → option_or (add_key s) (limited s) ≡ limited s
+limit-alone-for-key s keys all =
+    ap (λ b. option_or (cond b (Some (request.FullKeys (length s.sets))) (first_cause ((is_full_all s, full_all s) ∷ []))) (limited s)) (lt-leb s.limits.keys (length s.sets) keys) ∙ room-for-all s all
 
 pub has-room : (s : PlainStore) (n : ℕ) → HasRoom s n → option_or (no_room s n) (limited s) ≡ None
 has-room s n room = limit-alone-for-member s n room.set room.all ∙ limit-free s room.changes

@@ -38,7 +38,7 @@ module _ (s : Store Set) (p : ℕ) (key : Bytes) (x : Set) (at : IsSetAt key p s
   pub found-written : set_of key (written_at s p key y n) ≡ Some y
   found-written = found-set s.sets p key x y at.at good.keys
 
-  pub others-written : (k : Bytes) → k ≢ key → set_of k (written_at s p key y n) ≡ set_of k s
+  others-written : (k : Bytes) → k ≢ key → set_of k (written_at s p key y n) ≡ set_of k s
   others-written k other = others-set s.sets p key x y k at.at (differs k key other)
 
   pub wirings-written : OthersKeep key s (written_at s p key y n)
@@ -87,7 +87,7 @@ module _ (s : Store Set) (key : Bytes) (none : set_of key s ≡ None) (good : Go
   pub found-put : set_of key (put_last s key y n) ≡ Some y
   found-put = found-push s.sets key y none
 
-  pub others-put : (k : Bytes) → k ≢ key → set_of k (put_last s key y n) ≡ set_of k s
+  others-put : (k : Bytes) → k ≢ key → set_of k (put_last s key y n) ≡ set_of k s
   others-put k other = others-push s.sets key y k (differs k key other)
 
   pub wirings-put : OthersKeep key s (put_last s key y n)

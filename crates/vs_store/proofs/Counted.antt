@@ -1,6 +1,6 @@
 -- Requests that change nothing and take no memory: what is answered of the set of a key, and where there is none.
-use Rattle.std.proofs.Common.{◌≡◌, Bool, cond, List, [], length, refl, sym, ap, ◌∙◌, pos}
-use Rattle.std.specs.Prelude.{Some, None, ℤ, is_some, count_by}
+use Rattle.std.proofs.Common.{◌≡◌, Bool, cond, [], length, refl, sym, ap, ◌∙◌, pos}
+use Rattle.std.specs.Prelude.{Some, None, ℤ, is_some}
 use Rattle.std.specs.Option.{option_or}
 use Rattle.vs_defs.specs.Answers.{Answers}
 use Rattle.vs_defs.specs.Bytes.{Bytes}
@@ -54,6 +54,3 @@ module _ (s : Store Set) (key : Bytes) (is : set_of key s ≡ None) where
     changes_nothing = refl;
     answer_is = ap (λ o. Some (request.Int (truth_number (in_set name o)))) (plain_set s key None is);
   }
-
-pub existing : (s : Store Set) (keys : List Bytes) (n : ℤ) → n ≡ pos (count_by (has_key (plain s)) keys) → Answers s (request.Exists keys) [] (request.Int n)
-existing s keys n value = record { unrefused = refl; changes_nothing = refl; answer_is = ap (λ z. Some (request.Int z)) (sym value) }

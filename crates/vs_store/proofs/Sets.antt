@@ -37,7 +37,7 @@ set_is key (e ∷ es) = ap (λ o. cond (same_name key e.0.items) (Some e.1) o) (
 -- ---- a place
 
 -- where the test holds first, the key's set stands
-pub a_place : (key : Bytes) (es : Entries) (p : ℕ) (s : Store model.Set) → map see es ≡ s.sets → position (is_key key) (keys_of es) ≡ Some p → slice_get (values_of es) p ≡ lookup (is_key key) es
+a_place : (key : Bytes) (es : Entries) (p : ℕ) (s : Store model.Set) → map see es ≡ s.sets → position (is_key key) (keys_of es) ≡ Some p → slice_get (values_of es) p ≡ lookup (is_key key) es
     → (x : model.Set) × IsSetAt key p s x
 a_place key [] p s seen is found = absurd (none-some p is)
 a_place key (d ∷ ds) p s seen is found =
@@ -101,7 +101,7 @@ bare e = (e.0, e.1.contents)
 abbrev pub members_in : Bytes × model.Set → ℕ
 members_in e = length e.1.contents.members
 
-pub sum_bare : (xs : List (Bytes × model.Set)) → sum_by (λ (e : Bytes × Contents). length e.1.members) (map bare xs) ≡ sum_by members_in xs
+sum_bare : (xs : List (Bytes × model.Set)) → sum_by (λ (e : Bytes × Contents). length e.1.members) (map bare xs) ≡ sum_by members_in xs
 sum_bare [] = refl
 sum_bare (e ∷ es) =
     omega (arith, sum_bare es, sum_by-cons (λ (f : Bytes × Contents). length f.1.members) (bare e) (map bare es), sum_by-cons members_in e es)

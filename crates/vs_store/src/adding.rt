@@ -1,6 +1,6 @@
 //! VADD: a new key with its first member, a new member, a replaced one. What may be refused, or want memory, comes first; what then changes the
 //! store takes none.
-ghost use Rattle.std.specs.Prelude.{◌≡◌, ◌≢◌, ◌+◌, ◌<◌, ◌≤◌, ◌^◌, ◌∷◌, [], None, Some, false, not, length, IfOk, IfErr, OnOk, OnErr};
+ghost use Rattle.std.specs.Prelude.{◌≡◌, ◌+◌, ◌<◌, ◌≤◌, ◌^◌, ◌∷◌, [], None, Some, false, not, length, IfOk, IfErr, OnOk, OnErr};
 ghost use Rattle.vs_defs.specs.Request as request;
 ghost use Rattle.vs_defs.specs.Bounds.{IsAddInBounds};
 ghost use Rattle.vs_defs.specs.PlainStep.{new_set};
