@@ -1,4 +1,6 @@
 pub mod Seen
 pub mod Kept
+pub mod Places
+pub mod Causes
 pub mod Snapshots
 pub mod Drafts

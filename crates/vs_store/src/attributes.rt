@@ -11,7 +11,12 @@ use vs_outside::Text;
 
 impl Store {
     /// VSETATTR.
-    pub(crate) fn set_attribute(&mut self, key: &[u8], name: &[u8], text: &Text) -> Result<Answer, Refusal>
+    pub(crate) fn set_attribute(
+        &mut self,
+        key: &[u8],
+        name: &[u8],
+        text: &Text,
+    ) -> Result<Answer, Refusal>
         ensures does { StoreDoes self.old (request.Vsetattr key.now name.now text.now) [] (outcome_of result) self.new }
         ensures scores { IfOk result HasScores }
     {

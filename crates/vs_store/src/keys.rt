@@ -1,7 +1,8 @@
 //! The sets by their keys.
-ghost use Rattle.std.specs.Prelude.{◌≡◌, is_some};
+ghost use Rattle.std.specs.Prelude.{◌≡◌, None, is_some, IfSome};
 ghost use Rattle.std.specs.Option.{option_copied};
-ghost use Rattle.vs_defs.specs.Store.{set_of};
+ghost use Rattle.vs_defs.specs.Store.{set_of, Set as Kind};
+ghost use Rattle.vs_store.specs.Places.{IsSetAt};
 
 use crate::Store;
 use vs_set::{Kept, Set};
@@ -19,5 +20,13 @@ impl Store {
         ensures { result ≡ is_some (set_of key.now self.now) }
     {
         self.set_at(key).is_some()
+    }
+
+    /// The place of a key's set.
+    pub(crate) fn place_of(&self, key: &[u8]) -> Option<usize>
+        ensures absent { result ≡ None → set_of key.now self.now ≡ None }
+        ensures present { IfSome result (λ place. (x : Kind) × IsSetAt key.now place self.now x) }
+    {
+        self.sets.get_index_of(key)
     }
 }

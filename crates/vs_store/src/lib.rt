@@ -15,6 +15,7 @@ mod looking;
 mod querying;
 mod ready;
 mod removing;
+mod room;
 mod store;
 
 pub use drafting::Drafting;

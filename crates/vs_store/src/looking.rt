@@ -28,7 +28,7 @@ impl Store {
         ensures unrefused { IfOk result (λ l. store_refusal (plain self.now) (request.Vsim (search_of search.now)) ≡ None) }
         ensures refused { IfErr result (λ e. IfSome (refusal_of e) (λ cause. store_refusal (plain self.now) (request.Vsim (search_of search.now)) ≡ Some cause)) }
     {
-        self.look_with(search.try_clone()?)
+        self.look_with(search.try_clone(self.alloc)?)
     }
 
     /// The same with a search that is given up. Besides the snapshot it takes no memory.

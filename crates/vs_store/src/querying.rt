@@ -55,7 +55,12 @@ impl Store {
     }
 
     /// VRANDMEMBER.
-    pub(crate) fn random(&self, key: &[u8], count: Option<i32>, words: &[u32]) -> Result<Answer, Refusal>
+    pub(crate) fn random(
+        &self,
+        key: &[u8],
+        count: Option<i32>,
+        words: &[u32],
+    ) -> Result<Answer, Refusal>
         requires { length words.now ≡ draws_of (request.Vrandmember key.now count) }
         ensures does { StoreDoes self.now (request.Vrandmember key.now count) words.now (outcome_of result) self.now }
         ensures scores { IfOk result HasScores }

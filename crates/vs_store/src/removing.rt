@@ -12,7 +12,12 @@ use vs_slot::Slot;
 
 impl Store {
     /// VREM. A set without members loses its key.
-    pub(crate) fn remove(&mut self, key: &[u8], name: &[u8], slot: &mut Slot) -> Result<Answer, Refusal>
+    pub(crate) fn remove(
+        &mut self,
+        key: &[u8],
+        name: &[u8],
+        slot: &mut Slot,
+    ) -> Result<Answer, Refusal>
         ensures does { StoreDoes self.old (request.Vrem key.now name.now) [] (outcome_of result) self.new }
         ensures scores { IfOk result HasScores }
     {
