@@ -1,11 +1,9 @@
 -- Facts on digits and on the numbers that they spell.
 use Rattle.std.proofs.Common.{◌≡◌, ℕ, ◌+◌, ◌-◌, ◌*◌, ◌<◌, ◌≤◌, true, false, cond, nat_le, Option, Some, None, ◌^◌, List, [], ◌∷◌, length, get_or, take, drop, refl, ap, sym, ◌∙◌, arith, add-one}
-use Rattle.std.specs.List.{list_all, fold}
-use Rattle.std.specs.Char.{is_ascii_digit}
+use Rattle.std.specs.List.{fold}
 use Rattle.std.proofs.Math.Seq.{drop-cons}
 use Rattle.std.proofs.lemmas.List.{take-append-drop}
 use Rattle.std.proofs.lemmas.List.Sums.{fold-append}
-use Rattle.std.proofs.lemmas.List.Recursion.{and_at}
 use Rattle.std.proofs.lemmas.Bool.Decides.{nat_tests}
 use Rattle.vs_defs.specs.Decimal.{number_of}
 
@@ -17,12 +15,6 @@ grows [] n = omega arith
 grows (c ∷ cs) n =
     let more = grows cs (next n c) in
     omega arith
-
-pub digit_range : (c : ℕ) → is_ascii_digit c ≡ true → (48 ≤ c) × (c ≤ 57)
-digit_range c h = (grind (arith, nat_tests), grind (arith, nat_tests))
-
-pub digit_at : (xs : List ℕ) (i : ℕ) → list_all is_ascii_digit xs ≡ true → i < length xs → (48 ≤ get_or xs i 0) × (get_or xs i 0 ≤ 57)
-digit_at xs i h l = digit_range _ (and_at (list_all is_ascii_digit) is_ascii_digit refl (λ _ _. refl) xs i 0 l h)
 
 -- the number of all digits is at least that of the first ones with one more
 pub exceeds : (xs : List ℕ) (i : ℕ) → i < length xs → number_of (take i xs) * 10 + (get_or xs i 0 - 48) ≤ number_of xs

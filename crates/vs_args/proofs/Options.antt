@@ -1,11 +1,12 @@
 -- Options by their places in a list, and as the definitions find them.
-use Rattle.std.proofs.Common.{◌≡◌, ℕ, zero, suc, ◌+◌, ◌<◌, Bool, true, false, List, [], ◌∷◌, ◌++◌, ◌&&◌, ◌||◌, length, get_or, map, drop, take, ◌-◌, ◌≤◌, Option, Some, None, option_map, is_some, cond, refl, ap, sym, ◌∙◌, arith, codes}
+use Rattle.std.proofs.Common.{◌≡◌, ℕ, zero, suc, ◌+◌, ◌<◌, Bool, true, false, List, [], ◌∷◌, ◌++◌, ◌&&◌, ◌||◌, length, get_or, map, drop, take, ◌-◌, ◌≤◌, Option, Some, None, is_some, cond, refl, ap, sym, ◌∙◌, arith, codes}
 use Rattle.std.specs.List.{position, position_from, remove, starts_with}
 use Rattle.std.specs.Bool.{nat_eq}
 use Rattle.std.proofs.lemmas.List.Quantifiers.{position-Some}
 use Rattle.std.proofs.lemmas.Iterator.Adapters.{position_from-zero}
 use Rattle.std.proofs.Math.Seq.{take-length}
 use Rattle.std.proofs.lemmas.Slice.Eq.{bytes_eq-Decides}
+use Rattle.vs_laws.proofs.Options.{is_some_of_map}
 use Rattle.vs_defs.specs.Bytes.{Bytes, same_name}
 use Rattle.vs_args.specs.declared.command.Choice as own
 use Rattle.vs_args.specs.declared.command.Command.{Command}
@@ -132,13 +133,9 @@ joined_found word xs i x e is =
     (sym (within word (seen xs)) ∙ at.0 ∙ ap (λ y. Some (choice_of y)) (sym is), sym (ap (λ y. without_choice (choice_of y) (seen xs)) is ∙ at.1))
 
 -- words are plain where what stands behind a command names options of it
-pub is_some_map : {A B : Type 0} (f : A → B) (o : Option A) → is_some (option_map f o) ≡ is_some o
-is_some_map f None = refl
-is_some_map f (Some a) = refl
-
 script_step : (w : Bytes) (ws : List Bytes) (c : Command) (b : Bool) → same_name w (codes "script") ≡ b → cond b (Some Script) None ≡ Some c
     → is_some (cond (b || false) (job_by w ws) None) ≡ is_some (settings_of (seen (choices_of c)) ws)
-script_step w ws Script true is e = rw is (is_some_map (λ s. defs.Script (defs.setting (codes "--seed") 0 s)) (settings_of (defs.seed ∷ []) ws))
+script_step w ws Script true is e = rw is (is_some_of_map (λ s. defs.Script (defs.setting (codes "--seed") 0 s)) (settings_of (defs.seed ∷ []) ws))
 script_step w ws c false is e = cc
 
 pub command_step : (w : Bytes) (ws : List Bytes) (c : Command) → command_named w ≡ Some c

@@ -18,13 +18,16 @@ use Rattle.clap.specs.Lexer.{long_of, short_of, strip_byte}
 use Rattle.clap.proofs.OnLiterals.{clap_on_literals}
 use Rattle.vs_defs.specs.Bytes.{Bytes, same_name}
 use Rattle.vs_defs.specs.Numeral.{is_empty}
-use Rattle.vs_defs.specs.ProgramWords.{Job, seed, is_plain_number, settings_of, setting, with_setting, value_in, job_by, choice_within, choice_named}
+use Rattle.vs_defs.specs.ProgramWords.{seed, is_plain_number, settings_of, setting, with_setting, value_in, job_by, choice_within, choice_named}
 use Rattle.vs_defs.specs.ProgramWords.Job.{Script}
 use Rattle.vs_defs.specs.Decimal.{number_of}
-use Rattle.vs_args.proofs.Digits.{digit_range}
-use Rattle.vs_args.proofs.Options.{is_some_map, lone_step, joined_step, named_step, strange_step}
+use Rattle.vs_decimal.proofs.DigitLists.{digit_range}
+use Rattle.vs_laws.proofs.Options.{is_some_of_map, none_is}
+use Rattle.vs_args.proofs.Options.{lone_step, joined_step, named_step, strange_step}
 use Rattle.std.proofs.lemmas.List.{take-append-drop}
+use Rattle.std.proofs.lemmas.Bool.{and_from, and_parts}
 use Rattle.std.proofs.lemmas.Bool.Decides.{nat_tests}
+use Rattle.std.proofs.Math.Bool.{and-true, and-false}
 use Rattle.vs_args.specs.Words.{are_plain, job_named}
 use Rattle.vs_args.specs.Arguments.{program}
 
@@ -100,50 +103,37 @@ cond_some : (b : Bool) (n : ℕ) → is_some (cond b (Some n) None) ≡ true →
 cond_some true n e = refl
 cond_some false n e = cc
 
-and_left : (a b : Bool) → (a && b) ≡ true → a ≡ true
-and_left true b e = refl
-and_left false b e = cc
-
-and_right : (a b : Bool) → (a && b) ≡ true → b ≡ true
-and_right true b e = e
-and_right false b e = cc
-
-both : (a b : Bool) → a ≡ true → b ≡ true → (a && b) ≡ true
-both true true e f = refl
-both true false e f = cc
-both false b e f = cc
-
 value_digits : (v : Bytes) → is_some (value_in seed v) ≡ true → (not (is_empty v) && list_all is_ascii_digit v) ≡ true
-value_digits v e = and_left _ _ (and_left (is_plain_number v) _ (and_left _ _ (cond_some _ _ e)))
+value_digits v e = (and_parts _ _ (and_parts (is_plain_number v) _ (and_parts _ _ (cond_some _ _ e)).0).0).0
 
 -- a value begins with a digit, so with no `-`
 digit_first : (c : ℕ) (cs : Bytes) → is_some (value_in seed (c ∷ cs)) ≡ true → (c == 45) ≡ false
 digit_first c cs e =
-    let digit : is_ascii_digit c ≡ true = and_left _ _ (and_right (not (is_empty (c ∷ cs))) (list_all is_ascii_digit (c ∷ cs)) (value_digits (c ∷ cs) e)) in
+    let digit : is_ascii_digit c ≡ true = (and_parts _ _ (and_parts (not (is_empty (c ∷ cs))) (list_all is_ascii_digit (c ∷ cs)) (value_digits (c ∷ cs) e)).1).0 in
     grind (arith, nat_tests)
 
 -- `clap` takes the value of plain words, and as the same number
 more_digits : (v : Bytes) (n : ℕ) → list_all is_ascii_digit v ≡ true → digits_value_after 10 n v ≡ fold (λ m c. m * 10 + (c - 48)) n v
 more_digits [] n e = refl
 more_digits (c ∷ cs) n e =
-    let range = digit_range c (and_left _ _ e) in
+    let range = digit_range c (and_parts _ _ e).0 in
     let value : digit_value c + 48 ≡ c = digit_value_digit c range in
     let less : digit_value c ≡ c - 48 = omega arith in
-    ap (λ d. digits_value_after 10 (n * 10 + d) cs) less ∙ more_digits cs (n * 10 + (c - 48)) (and_right (is_ascii_digit c) _ e)
+    ap (λ d. digits_value_after 10 (n * 10 + d) cs) less ∙ more_digits cs (n * 10 + (c - 48)) (and_parts (is_ascii_digit c) _ e).1
 
 few_digits : (v : Bytes) → list_all is_ascii_digit v ≡ true → list_all (λ d. nat_lt (digit_value d) 10) v ≡ true
 few_digits [] e = refl
 few_digits (c ∷ cs) e =
-    let range = digit_range c (and_left _ _ e) in
+    let range = digit_range c (and_parts _ _ e).0 in
     let value : digit_value c + 48 ≡ c = digit_value_digit c range in
     let below : nat_lt (digit_value c) 10 ≡ true = grind (arith, nat_tests) in
-    both _ _ below (few_digits cs (and_right (is_ascii_digit c) _ e))
+    and_from _ _ below (few_digits cs (and_parts (is_ascii_digit c) _ e).1)
 
 within : (n : ℕ) → nat_le n (2 ^ 64 - 1) ≡ true → (nat_lt n (2 ^ 64) && (nat_le 0 n && nat_le n (2 ^ 64 - 1))) ≡ true
 within n e =
     let below : nat_lt n (2 ^ 64) ≡ true = grind (arith, nat_tests) in
     let least : nat_le 0 n ≡ true = grind (arith, nat_tests) in
-    both _ _ below (both _ _ least e)
+    and_from _ _ below (and_from _ _ least e)
 
 has_some : (c : ℕ) (cs : Bytes) → nat_lt 0 (length (c ∷ cs)) ≡ true
 has_some c cs = grind (arith, nat_tests)
@@ -151,24 +141,24 @@ has_some c cs = grind (arith, nat_tests)
 accepted : (v : Bytes) → is_some (value_in seed v) ≡ true → accepts false (parser.Unsigned 0 (2 ^ 64 - 1)) v ≡ true
 accepted [] e = cc
 accepted (c ∷ cs) e =
-    let digits : list_all is_ascii_digit (c ∷ cs) ≡ true = and_right (not (is_empty (c ∷ cs))) _ (value_digits (c ∷ cs) e) in
-    let range = digit_range c (and_left _ _ digits) in
+    let digits : list_all is_ascii_digit (c ∷ cs) ≡ true = (and_parts (not (is_empty (c ∷ cs))) _ (value_digits (c ∷ cs) e)).1 in
+    let range = digit_range c (and_parts _ _ digits).0 in
     let no_plus : without_leading_plus (c ∷ cs) ≡ c ∷ cs = without_leading_plus_none (c ∷ cs) (λ p. absurd (omega arith)) in
     let same : digits_value 10 (c ∷ cs) ≡ number_of (c ∷ cs) = more_digits (c ∷ cs) 0 digits in
-    let most : nat_le (number_of (c ∷ cs)) (2 ^ 64 - 1) ≡ true = and_right (is_plain_number (c ∷ cs) && nat_le 0 (number_of (c ∷ cs))) _ (cond_some _ _ e) in
+    let most : nat_le (number_of (c ∷ cs)) (2 ^ 64 - 1) ≡ true = (and_parts (is_plain_number (c ∷ cs) && nat_le 0 (number_of (c ∷ cs))) _ (cond_some _ _ e)).1 in
     let some : nat_lt 0 (length (c ∷ cs)) ≡ true = has_some c cs in
-    let numeral : is_numeral (c ∷ cs) ≡ true = both _ _ some (few_digits (c ∷ cs) digits) in
+    let numeral : is_numeral (c ∷ cs) ≡ true = and_from _ _ some (few_digits (c ∷ cs) digits) in
     let fits : (nat_lt (digits_value 10 (c ∷ cs)) (2 ^ 64) && (nat_le 0 (digits_value 10 (c ∷ cs)) && nat_le (digits_value 10 (c ∷ cs)) (2 ^ 64 - 1))) ≡ true =
     rw same (within (number_of (c ∷ cs)) most) in
     subst (λ v. (is_numeral v && (nat_lt (digits_value 10 v) (2 ^ 64) && (nat_le 0 (digits_value 10 v) && nat_le (digits_value 10 v) (2 ^ 64 - 1)))) ≡ true)
-    (sym no_plus) (both _ _ numeral fits)
+    (sym no_plus) (and_from _ _ numeral fits)
 
 -- plain words are ASCII, so text
 small : (bs : Bytes) → list_all is_ascii bs ≡ true → All (λ b. b < 128) bs
 small [] e = All-nil (λ b. b < 128)
 small (b ∷ bs) e =
-    let below : is_ascii b ≡ true = and_left _ _ e in
-    All-cons (λ b. b < 128) b bs (grind (arith, nat_tests)) (small bs (and_right (is_ascii b) _ e))
+    let below : is_ascii b ≡ true = (and_parts _ _ e).0 in
+    All-cons (λ b. b < 128) b bs (grind (arith, nat_tests)) (small bs (and_parts (is_ascii b) _ e).1)
 
 no_texts : All IsUtf8 []
 no_texts = All-nil IsUtf8
@@ -179,12 +169,12 @@ text w ws e rest = All-cons IsUtf8 w ws (IsUtf8-from_ascii w (IsAscii-from_all w
 digits_small : (v : Bytes) → list_all is_ascii_digit v ≡ true → list_all is_ascii v ≡ true
 digits_small [] e = refl
 digits_small (c ∷ cs) e =
-    let digit : is_ascii_digit c ≡ true = and_left _ _ e in
+    let digit : is_ascii_digit c ≡ true = (and_parts _ _ e).0 in
     let below : is_ascii c ≡ true = grind (arith, nat_tests) in
-    both _ _ below (digits_small cs (and_right (is_ascii_digit c) _ e))
+    and_from _ _ below (digits_small cs (and_parts (is_ascii_digit c) _ e).1)
 
 value_small : (v : Bytes) → is_some (value_in seed v) ≡ true → list_all is_ascii v ≡ true
-value_small v e = digits_small v (and_right (not (is_empty v)) _ (value_digits v e))
+value_small v e = digits_small v (and_parts (not (is_empty v)) _ (value_digits v e)).1
 
 joined_law : (v : Bytes) → is_some (value_in seed v) ≡ true → IsSeedText (codes "script" ∷ (codes "--seed=" ++ v) ∷ []) v
 joined_law v e = record {
@@ -212,14 +202,6 @@ none_left : (w : Bytes) (ws : List Bytes) → is_some (settings_of [] (w ∷ ws)
 none_left w [] = refl
 none_left w (v ∷ ws) = refl
 
-and_false : (b : Bool) → (b && false) ≡ false
-and_false true = refl
-and_false false = refl
-
-and_true : (b : Bool) → (b && true) ≡ b
-and_true true = refl
-and_true false = refl
-
 joined_word : (w : Bytes) → starts_with nat_eq w (codes "--seed=") ≡ true → w ≡ codes "--seed=" ++ drop 7 w
 joined_word w is =
     let front : codes "--seed=" ≡ take 7 w = (bytes_eq-Decides (codes "--seed=") (take 7 w)).0 is in
@@ -231,7 +213,7 @@ Seeded words = (text : Bytes) × IsSeedText words text
 joined_lone : (v : Bytes) → is_some (settings_of (seed ∷ []) ((codes "--seed=" ++ v) ∷ [])) ≡ true → Seeded (codes "script" ∷ (codes "--seed=" ++ v) ∷ [])
 joined_lone v e =
     let step = joined_step (seed ∷ []) (codes "--seed=" ++ v) [] seed refl in
-    (v, joined_law v (sym (and_true _) ∙ sym step ∙ e))
+    (v, joined_law v (sym (and-true _) ∙ sym step ∙ e))
 
 lone_law : (w : Bytes) (b : Bool) → starts_with nat_eq w (codes "--seed=") ≡ b → is_some (settings_of (seed ∷ []) (w ∷ [])) ≡ true
     → Seeded (codes "script" ∷ w ∷ [])
@@ -246,10 +228,10 @@ lone_law w false is e =
 named_law : (v : Bytes) (ws : List Bytes) → is_some (settings_of (seed ∷ []) (codes "--seed" ∷ v ∷ ws)) ≡ true → Seeded (codes "script" ∷ codes "--seed" ∷ v ∷ ws)
 named_law v [] e =
     let step = named_step (seed ∷ []) (codes "--seed") v [] seed refl refl in
-    valued_law v (sym (and_true _) ∙ sym step ∙ e)
+    valued_law v (sym (and-true _) ∙ sym step ∙ e)
 named_law v (u ∷ us) e =
     let step = named_step (seed ∷ []) (codes "--seed") v (u ∷ us) seed refl refl in
-    let bad : false ≡ true = sym (and_false _) ∙ ap (λ b. is_some (value_in seed v) && b) (sym (none_left u us)) ∙ sym step ∙ e in
+    let bad : false ≡ true = sym (and-false _) ∙ ap (λ b. is_some (value_in seed v) && b) (sym (none_left u us)) ∙ sym step ∙ e in
     cc
 
 two_words_law : (w v : Bytes) (ws : List Bytes) (joined named : Bool) → starts_with nat_eq w (codes "--seed=") ≡ joined → same_name w (codes "--seed") ≡ named
@@ -257,7 +239,7 @@ two_words_law : (w v : Bytes) (ws : List Bytes) (joined named : Bool) → starts
 two_words_law w v ws true named is is_named e =
     let within : choice_within w (seed ∷ []) ≡ Some seed = rw is refl in
     let step = joined_step (seed ∷ []) w (v ∷ ws) seed within in
-    let bad : false ≡ true = sym (and_false _) ∙ ap (λ b. is_some (value_in seed (drop 6 (drop 1 w))) && b) (sym (none_left v ws)) ∙ sym step ∙ e in
+    let bad : false ≡ true = sym (and-false _) ∙ ap (λ b. is_some (value_in seed (drop 6 (drop 1 w))) && b) (sym (none_left v ws)) ∙ sym step ∙ e in
     cc
 two_words_law w v ws false true is is_named e =
     let word : w ≡ codes "--seed" = (bytes_eq-Decides w (codes "--seed")).0 is_named in
@@ -278,7 +260,7 @@ script_law w ws false is e = cc
 script_law w ws true is e =
     let word : w ≡ codes "script" = (bytes_eq-Decides w (codes "script")).0 is in
     let plain : is_some (job_by (codes "script") ws) ≡ true = subst (λ x. is_some (job_by x ws) ≡ true) word e in
-    subst (λ x. Seeded (x ∷ ws)) (sym word) (settings_law ws (sym (is_some_map (λ s. Script (setting (codes "--seed") 0 s)) (settings_of (seed ∷ []) ws)) ∙ plain))
+    subst (λ x. Seeded (x ∷ ws)) (sym word) (settings_law ws (sym (is_some_of_map (λ s. Script (setting (codes "--seed") 0 s)) (settings_of (seed ∷ []) ws)) ∙ plain))
 
 -- plain words have a seed, which `clap` reads
 pub seed_law : (words : List Bytes) → are_plain words ≡ true → Seeded words
@@ -289,7 +271,4 @@ pub words_utf8 : (words : List Bytes) → are_plain words ≡ true → All IsUtf
 words_utf8 words e = (seed_law words e).1.utf8
 
 pub no_job : (words : List Bytes) → are_plain words ≡ false → job_named words ≡ None
-no_job words e = none (job_named words) e where
-  none : (o : Option Job) → is_some o ≡ false → o ≡ None
-  none None e = refl
-  none (Some j) e = cc
+no_job words e = none_is (job_named words) e

@@ -1,9 +1,10 @@
 -- What the grammar derives is read by the definition's reader.
 use Rattle.std.proofs.Common.{◌≡◌, ℕ, suc, ◌+◌, ◌-◌, ◌*◌, ◌≤◌, ◌==◌, Bool, true, false, cond, ◌||◌, List, [], ◌∷◌, ◌++◌, Option, Some, None, length, drop, take, refl, ap, sym, ◌∙◌, subst, arith, option_map, option_and_then, codes, nat_lt}
 use Rattle.std.specs.Char.{is_ascii_digit}
-use Rattle.std.proofs.lemmas.Bool.{eqb-true, false≢true}
+use Rattle.std.proofs.lemmas.Bool.{eqb-true, false≢true, le-ltb}
 use Rattle.std.proofs.lemmas.Bool.Decides.{nat_tests}
 use Rattle.std.proofs.Math.Bool.{or-true}
+use Rattle.vs_defs.specs.Limits.{max_json_depth}
 use Rattle.vs_defs.specs.Bytes.{Bytes}
 use Rattle.vs_defs.specs.Numeral as numeral
 use Rattle.vs_defs.specs.Numeral.{begins_with, digits_of, after_digits, is_empty, without}
@@ -194,13 +195,10 @@ number_done d n r h e =
 
 -- ---- texts
 
-control : (c : ℕ) → 32 ≤ c → nat_lt c 32 ≡ false
-control c h = grind (arith, nat_tests)
-
 inner_plain : (c : ℕ) (s : Bytes) → 32 ≤ c → (c == 34) ≡ false → (c == 92) ≡ false → inner_at (c ∷ s) ≡ Some (json.plain c, s)
 inner_plain c s l q b =
     ap (λ v. inner_by v (piece_at (c ∷ s))) q ∙ ap (λ v. cond v (escape_at s) (cond (nat_lt c 32) None (Some (json.plain c, s)))) b
-    ∙ ap (λ v. cond v None (Some (json.plain c, s))) (control c l)
+    ∙ ap (λ v. cond v None (Some (json.plain c, s))) (le-ltb c 32 l)
 
 inner_short : (c b : ℕ) (s : Bytes) → (c == 117) ≡ false → short_escape c ≡ Some b → inner_at (92 ∷ c ∷ s) ≡ Some (json.plain b, s)
 inner_short c b s n e =
@@ -316,10 +314,10 @@ mutual
 -- ---- whole texts
 
 abbrev json_by : Bool → Bytes → Option Json
-json_by v s = elim v [ true ↦ whole_value (value_within (2 * length s + 2) 64 s) | false ↦ None ]
+json_by v s = elim v [ true ↦ whole_value (value_within (2 * length s + 2) max_json_depth s) | false ↦ None ]
 
 pub derived_is_read : (s : Bytes) (j : Json) → Derived s j → json_of s ≡ Some j
 derived_is_read s j h =
-    let w : Done 64 j h.at h.rest = value_done h.spelled (space_ends h.after tt) in
-    ap (λ v. json_by v s) h.utf8 ∙ ap whole_value (value_whole 64 s ∙ value_same 64 h.before ∙ w.1)
+    let w : Done max_json_depth j h.at h.rest = value_done h.spelled (space_ends h.after tt) in
+    ap (λ v. json_by v s) h.utf8 ∙ ap whole_value (value_whole max_json_depth s ∙ value_same max_json_depth h.before ∙ w.1)
     ∙ ap (λ t. cond (is_empty t) (Some j) None) (skip_same w.2 ∙ skip_same h.after)

@@ -5,6 +5,7 @@ use Rattle.std.proofs.lemmas.Str.{is_utf8-from_IsUtf8, IsUtf8-from_is_utf8}
 use Rattle.std.specs.List.{starts_with}
 use Rattle.std.proofs.lemmas.Bool.{eqb-true, false≢true}
 use Rattle.std.proofs.lemmas.Bool.Decides.{nat_tests}
+use Rattle.vs_defs.specs.Limits.{max_json_depth}
 use Rattle.vs_defs.specs.Bytes.{Bytes, first_in}
 use Rattle.vs_defs.specs.Numeral.{begins_with, is_empty}
 use Rattle.vs_defs.specs.Decimal.{read_fixed}
@@ -12,7 +13,7 @@ use Rattle.vs_defs.specs.Json as json
 use Rattle.vs_defs.specs.Json.{Json, Items, Members, Front, Piece, bytes_of, mark_at, skip_space, plain_value_at, word_at, or_front, number_at, after_number, whole_value, value_within}
 use Rattle.vs_defs.specs.AttributeField as field
 use Rattle.vs_defs.specs.AttributeField.{is_object, is_object_of, is_object_value, Single, NoKind, single_of, singles_of, field_of_value, number_field, text_field, member_value, option_field, field_of}
-use Rattle.vs_attr.specs.Reading.{pieces_at, value_at, items_at, members_at, rest_of, value_of, string_at, text_at, array_at, object_at, value_from}
+use Rattle.vs_attr.specs.Reading.{pieces_at, value_at, items_at, members_at, rest_of, value_of, string_at, text_at, array_at, object_at, value_from, member_depth, item_depth}
 use Rattle.vs_attr.specs.Listed.{items_from, items_left, AreItems, begun, items_inside, IsArrayInside, item_next}
 use Rattle.vs_attr.specs.Fields.{named_in, found_whole, member_found, number_single, plain_single, single_from}
 use Rattle.vs_attr.proofs.Bodies.{on_mark}
@@ -198,30 +199,30 @@ some_items : (o : Front Items) → IsSome (value_of (option_map (λ q. (json.Arr
 some_items None s = absurd (false≢true s)
 some_items (Some q) s = refl
 
-inside_by : (inside : Bytes) (o : Option Bytes) → IsSome (value_of (elim o [ Some rest ↦ Some (json.Array json.no_items, rest) | None ↦ option_map (λ q. (json.Array q.0, q.1)) (items_at 62 inside) ])) → AreItems (begun inside o)
-inside_by inside None s = some_items (items_at 62 inside) s
+inside_by : (inside : Bytes) (o : Option Bytes) → IsSome (value_of (elim o [ Some rest ↦ Some (json.Array json.no_items, rest) | None ↦ option_map (λ q. (json.Array q.0, q.1)) (items_at item_depth inside) ])) → AreItems (begun inside o)
+inside_by inside None s = some_items (items_at item_depth inside) s
 inside_by inside (Some rest) s = tt
 
-pub array_inside : (t inside : Bytes) → mark_at 91 t ≡ Some inside → IsSome (value_of (value_at 63 t)) → IsArrayInside inside
-array_inside t inside m s = inside_by inside (mark_at 93 inside) (subst (λ o. IsSome (value_of o)) (value_array 63 t inside m) s)
+pub array_inside : (t inside : Bytes) → mark_at 91 t ≡ Some inside → IsSome (value_of (value_at member_depth t)) → IsArrayInside inside
+array_inside t inside m s = inside_by inside (mark_at 93 inside) (subst (λ o. IsSome (value_of o)) (value_array member_depth t inside m) s)
 
 listed_items : (o : Front Items) → IsSome (value_of (option_map (λ q. (json.Array q.0, q.1)) o)) → Some (field.Listed (unwrap_or (option_map singles_of (value_of o)) [])) ≡ option_map field_of_value (value_of (option_map (λ q. (json.Array q.0, q.1)) o))
 listed_items None s = absurd (false≢true s)
 listed_items (Some q) s = refl
 
-listed_by : (inside : Bytes) (o : Option Bytes) → IsSome (value_of (elim o [ Some rest ↦ Some (json.Array json.no_items, rest) | None ↦ option_map (λ q. (json.Array q.0, q.1)) (items_at 62 inside) ])) → Some (field.Listed (items_left (begun inside o))) ≡ option_map field_of_value (value_of (elim o [ Some rest ↦ Some (json.Array json.no_items, rest) | None ↦ option_map (λ q. (json.Array q.0, q.1)) (items_at 62 inside) ]))
-listed_by inside None s = listed_items (items_at 62 inside) s
+listed_by : (inside : Bytes) (o : Option Bytes) → IsSome (value_of (elim o [ Some rest ↦ Some (json.Array json.no_items, rest) | None ↦ option_map (λ q. (json.Array q.0, q.1)) (items_at item_depth inside) ])) → Some (field.Listed (items_left (begun inside o))) ≡ option_map field_of_value (value_of (elim o [ Some rest ↦ Some (json.Array json.no_items, rest) | None ↦ option_map (λ q. (json.Array q.0, q.1)) (items_at item_depth inside) ]))
+listed_by inside None s = listed_items (items_at item_depth inside) s
 listed_by inside (Some rest) s = refl
 
-pub list_field : (t inside : Bytes) → mark_at 91 t ≡ Some inside → IsSome (value_of (value_at 63 t)) → Some (field.Listed (items_inside inside)) ≡ option_map field_of_value (value_of (value_at 63 t))
+pub list_field : (t inside : Bytes) → mark_at 91 t ≡ Some inside → IsSome (value_of (value_at member_depth t)) → Some (field.Listed (items_inside inside)) ≡ option_map field_of_value (value_of (value_at member_depth t))
 list_field t inside m s =
-    listed_by inside (mark_at 93 inside) (subst (λ o. IsSome (value_of o)) (value_array 63 t inside m) s)
-    ∙ sym (ap (λ o. option_map field_of_value (value_of o)) (value_array 63 t inside m))
+    listed_by inside (mark_at 93 inside) (subst (λ o. IsSome (value_of o)) (value_array member_depth t inside m) s)
+    ∙ sym (ap (λ o. option_map field_of_value (value_of o)) (value_array member_depth t inside m))
 
 -- ---- the items of a list, one by one
 
 abbrev items_after : Json → Option Bytes → Bytes → Front Items
-items_after j o rest = on_mark o (λ more. option_map (λ q. (json.item j q.0, q.1)) (items_at 62 more)) (option_map (λ after. (json.item j json.no_items, after)) (mark_at 93 rest))
+items_after j o rest = on_mark o (λ more. option_map (λ q. (json.item j q.0, q.1)) (items_at item_depth more)) (option_map (λ after. (json.item j json.no_items, after)) (mark_at 93 rest))
 
 abbrev singles_in : Front Items → List Single
 singles_in o = unwrap_or (option_map singles_of (value_of o)) []
@@ -242,19 +243,19 @@ record Turn (j : Json) (all : Front Items) (next : Option Bytes) : Type 0 where
 
 turn_behind : (j : Json) (o : Option Bytes) (rest : Bytes) → IsSome (value_of (items_after j o rest)) → Turn j (items_after j o rest) o
 turn_behind j None rest s = let h = after_last j (mark_at 93 rest) s in record { first = h.0; rest = h.1; valid = tt }
-turn_behind j (Some more) rest s = let h = after_first j (items_at 62 more) s in record { first = h.0; rest = h.1; valid = h.2 }
+turn_behind j (Some more) rest s = let h = after_first j (items_at item_depth more) s in record { first = h.0; rest = h.1; valid = h.2 }
 
-turn_by : (t : Bytes) (o : Front Json) → value_at 62 t ≡ o → IsSome (items_from t) → (j : Json) × (value_of o ≡ Some j) × Turn j (items_at 62 t) (option_and_then (mark_at 44) (rest_of o))
-turn_by t None v s = absurd (false≢true (subst (λ o. IsSome (value_of o)) (items_none 62 t v) s))
+turn_by : (t : Bytes) (o : Front Json) → value_at item_depth t ≡ o → IsSome (items_from t) → (j : Json) × (value_of o ≡ Some j) × Turn j (items_at item_depth t) (option_and_then (mark_at 44) (rest_of o))
+turn_by t None v s = absurd (false≢true (subst (λ o. IsSome (value_of o)) (items_none item_depth t v) s))
 turn_by t (Some p) v s =
-    let e : items_at 62 t ≡ items_after p.0 (mark_at 44 p.1) p.1 = items_read 62 t p v in
+    let e : items_at item_depth t ≡ items_after p.0 (mark_at 44 p.1) p.1 = items_read item_depth t p v in
     (p.0, refl, subst (λ o. Turn p.0 o (mark_at 44 p.1)) (sym e) (turn_behind p.0 (mark_at 44 p.1) p.1 (subst (λ o. IsSome (value_of o)) e s)))
 
-item_turn : (t : Bytes) → IsSome (items_from t) → (j : Json) × (value_of (value_at 62 t) ≡ Some j) × Turn j (items_at 62 t) (item_next t)
-item_turn t s = turn_by t (value_at 62 t) refl s
+item_turn : (t : Bytes) → IsSome (items_from t) → (j : Json) × (value_of (value_at item_depth t) ≡ Some j) × Turn j (items_at item_depth t) (item_next t)
+item_turn t s = turn_by t (value_at item_depth t) refl s
 
 pub item_first : (t : Bytes) → AreItems (Some t) → first_in (items_left (Some t)) ≡ Some (single_from (skip_space t))
-item_first t s = let h = item_turn t s in h.2.first ∙ ap (λ k. Some k) (kind_at 62 t h.0 h.1)
+item_first t s = let h = item_turn t s in h.2.first ∙ ap (λ k. Some k) (kind_at item_depth t h.0 h.1)
 
 pub item_rest : (t : Bytes) → AreItems (Some t) → drop 1 (items_left (Some t)) ≡ items_left (item_next t)
 item_rest t s = let h = item_turn t s in h.2.rest
@@ -282,23 +283,23 @@ whole_none name (Some p) h = elim (is_empty (skip_space p.1)) as (λ v. option_a
 
 pub found_none : (name t : Bytes) → mark_at 123 t ≡ None → None ≡ member_found name t
 found_none name t m =
-    sym (whole_none name (value_at 64 t) (subst (OnRead (λ j. member_value name j ≡ None)) (sym (value_from_is 64 t)) (not_object_from name 64 (skip_space t) m)))
+    sym (whole_none name (value_at max_json_depth t) (subst (OnRead (λ j. member_value name j ≡ None)) (sym (value_from_is max_json_depth t)) (not_object_from name max_json_depth (skip_space t) m)))
 
 abbrev object_by : Bytes → Option Bytes → Front Json
-object_by inside o = elim o [ Some rest ↦ Some (json.Object json.no_members, rest) | None ↦ option_map (λ q. (json.Object q.0, q.1)) (members_at 63 inside) ]
+object_by inside o = elim o [ Some rest ↦ Some (json.Object json.no_members, rest) | None ↦ option_map (λ q. (json.Object q.0, q.1)) (members_at member_depth inside) ]
 
 whole_members : (name : Bytes) (o : Front Members) → found_whole (named_in name None o) ≡ option_and_then (member_value name) (whole_value (option_map (λ q. (json.Object q.0, q.1)) o))
 whole_members name None = refl
 whole_members name (Some q) = elim (is_empty (skip_space q.1)) as (λ v. cond v (field.last_named name None q.0) None ≡ option_and_then (member_value name) (cond v (Some (json.Object q.0)) None)) [ true ↦ refl | false ↦ refl ]
 
-pub found_members : (name t inside : Bytes) → mark_at 123 t ≡ Some inside → mark_at 125 inside ≡ None → found_whole (named_in name None (members_at 63 inside)) ≡ member_found name t
+pub found_members : (name t inside : Bytes) → mark_at 123 t ≡ Some inside → mark_at 125 inside ≡ None → found_whole (named_in name None (members_at member_depth inside)) ≡ member_found name t
 found_members name t inside m e =
-    whole_members name (members_at 63 inside)
-    ∙ sym (ap (λ o. option_and_then (member_value name) (whole_value o)) (value_object 64 t inside m ∙ ap (object_by inside) e))
+    whole_members name (members_at member_depth inside)
+    ∙ sym (ap (λ o. option_and_then (member_value name) (whole_value o)) (value_object max_json_depth t inside m ∙ ap (object_by inside) e))
 
 pub found_empty : (name t inside rest : Bytes) → mark_at 123 t ≡ Some inside → mark_at 125 inside ≡ Some rest → None ≡ member_found name t
 found_empty name t inside rest m e =
-    sym (ap (λ o. option_and_then (member_value name) (whole_value o)) (value_object 64 t inside m ∙ ap (object_by inside) e)
+    sym (ap (λ o. option_and_then (member_value name) (whole_value o)) (value_object max_json_depth t inside m ∙ ap (object_by inside) e)
     ∙ whole_none name (Some (json.Object json.no_members, rest)) refl)
 
 -- ---- texts in UTF-8
@@ -313,12 +314,12 @@ utf8_ok P Q (Err e) text h = not_utf8 text (is_utf8 text) refl h.0
 
 pub field_whole : (text name : Bytes) → is_utf8 text ≡ true → option_field (member_found name text) ≡ field_of text name
 field_whole text name u =
-    sym (ap (λ v. option_field (option_and_then (λ j. member_value name j) (elim v [ true ↦ whole_value (value_within (2 * length text + 2) 64 text) | false ↦ None ]))) u
-    ∙ ap (λ o. option_field (option_and_then (λ j. member_value name j) (whole_value o))) (value_whole 64 text))
+    sym (ap (λ v. option_field (option_and_then (λ j. member_value name j) (elim v [ true ↦ whole_value (value_within (2 * length text + 2) max_json_depth text) | false ↦ None ]))) u
+    ∙ ap (λ o. option_field (option_and_then (λ j. member_value name j) (whole_value o))) (value_whole max_json_depth text))
 
 pub field_not_utf8 : (text name : Bytes) → is_utf8 text ≡ false → None ≡ field_of text name
 field_not_utf8 text name u =
-    sym (ap (λ v. option_field (option_and_then (λ j. member_value name j) (elim v [ true ↦ whole_value (value_within (2 * length text + 2) 64 text) | false ↦ None ]))) u)
+    sym (ap (λ v. option_field (option_and_then (λ j. member_value name j) (elim v [ true ↦ whole_value (value_within (2 * length text + 2) max_json_depth text) | false ↦ None ]))) u)
 
 pub option_field_is : (o : Option Json) → option_map field_of_value o ≡ option_field o
 option_field_is None = refl
@@ -342,18 +343,18 @@ whole_other : (o : Front Json) → OnRead (λ j. is_object_value j ≡ false) o 
 whole_other None h = refl
 whole_other (Some p) h = elim (is_empty (skip_space p.1)) as (λ v. is_object_of (cond v (Some p.0) None) ≡ false) [ true ↦ h | false ↦ refl ]
 
-object_whole : (text : Bytes) → is_utf8 text ≡ true → is_object_of (whole_value (value_at 64 text)) ≡ is_object text
+object_whole : (text : Bytes) → is_utf8 text ≡ true → is_object_of (whole_value (value_at max_json_depth text)) ≡ is_object text
 object_whole text u =
-    sym (ap (λ v. is_object_of (elim v [ true ↦ whole_value (value_within (2 * length text + 2) 64 text) | false ↦ None ])) u
-    ∙ ap (λ o. is_object_of (whole_value o)) (value_whole 64 text))
+    sym (ap (λ v. is_object_of (elim v [ true ↦ whole_value (value_within (2 * length text + 2) max_json_depth text) | false ↦ None ])) u
+    ∙ ap (λ o. is_object_of (whole_value o)) (value_whole max_json_depth text))
 
 pub object_not_utf8 : (text : Bytes) → is_utf8 text ≡ false → false ≡ is_object text
 object_not_utf8 text u =
-    sym (ap (λ v. is_object_of (elim v [ true ↦ whole_value (value_within (2 * length text + 2) 64 text) | false ↦ None ])) u)
+    sym (ap (λ v. is_object_of (elim v [ true ↦ whole_value (value_within (2 * length text + 2) max_json_depth text) | false ↦ None ])) u)
 
 pub object_none : (text : Bytes) → is_utf8 text ≡ true → mark_at 123 text ≡ None → false ≡ is_object text
 object_none text u m =
-    sym (whole_other (value_at 64 text) (subst (OnRead (λ j. is_object_value j ≡ false)) (sym (value_from_is 64 text)) (not_object_value_from 64 (skip_space text) m)))
+    sym (whole_other (value_at max_json_depth text) (subst (OnRead (λ j. is_object_value j ≡ false)) (sym (value_from_is max_json_depth text)) (not_object_value_from max_json_depth (skip_space text) m)))
     ∙ object_whole text u
 
 whole_rest : (o : Front Json) (rest : Option Bytes) → OnRead (λ j. is_object_value j ≡ true) o → rest_of o ≡ rest
@@ -363,12 +364,12 @@ whole_rest (Some p) rest h e =
     sym (ap (λ (r : Option Bytes). elim r [ Some s ↦ is_empty (skip_space s) | None ↦ false ]) e)
     ∙ elim (is_empty (skip_space p.1)) as (λ v. v ≡ is_object_of (cond v (Some p.0) None)) [ true ↦ sym h | false ↦ refl ]
 
-object_here : (text inside : Bytes) → mark_at 123 text ≡ Some inside → OnRead (λ j. is_object_value j ≡ true) (value_at 64 text)
-object_here text inside m = subst (OnRead (λ j. is_object_value j ≡ true)) (sym (value_object 64 text inside m)) (object_read (λ j. is_object_value j ≡ true) (λ ms. refl) 64 inside)
+object_here : (text inside : Bytes) → mark_at 123 text ≡ Some inside → OnRead (λ j. is_object_value j ≡ true) (value_at max_json_depth text)
+object_here text inside m = subst (OnRead (λ j. is_object_value j ≡ true)) (sym (value_object max_json_depth text inside m)) (object_read (λ j. is_object_value j ≡ true) (λ ms. refl) 64 inside)
 
-pub object_end : (text inside rest : Bytes) → is_utf8 text ≡ true → mark_at 123 text ≡ Some inside → rest_of (value_at 64 text) ≡ Some rest
+pub object_end : (text inside rest : Bytes) → is_utf8 text ≡ true → mark_at 123 text ≡ Some inside → rest_of (value_at max_json_depth text) ≡ Some rest
     → is_empty (skip_space rest) ≡ is_object text
-object_end text inside rest u m e = whole_rest (value_at 64 text) (Some rest) (object_here text inside m) e ∙ object_whole text u
+object_end text inside rest u m e = whole_rest (value_at max_json_depth text) (Some rest) (object_here text inside m) e ∙ object_whole text u
 
-pub object_cut : (text inside : Bytes) → is_utf8 text ≡ true → mark_at 123 text ≡ Some inside → rest_of (value_at 64 text) ≡ None → false ≡ is_object text
-object_cut text inside u m e = whole_rest (value_at 64 text) None (object_here text inside m) e ∙ object_whole text u
+pub object_cut : (text inside : Bytes) → is_utf8 text ≡ true → mark_at 123 text ≡ Some inside → rest_of (value_at max_json_depth text) ≡ None → false ≡ is_object text
+object_cut text inside u m e = whole_rest (value_at max_json_depth text) None (object_here text inside m) e ∙ object_whole text u

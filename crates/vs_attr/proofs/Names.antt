@@ -3,38 +3,33 @@ use Rattle.std.proofs.Common.{◌≡◌, ℕ, ◌+◌, ◌/◌, ◌%◌, ◌<◌
 use Rattle.std.specs.Char.{encode_utf8}
 use Rattle.std.specs.Option.{option_eq}
 use Rattle.std.proofs.lemmas.List.{drop_all}
+use Rattle.std.proofs.lemmas.Bool.{le-ltb, lt-ltb}
 use Rattle.std.proofs.lemmas.Bool.Decides.{nat_tests}
 use Rattle.vs_defs.specs.Bytes.{same_name, first_in}
 
 -- ---- the bytes of a character
 
-test_lt : (a b : ℕ) → a < b → nat_lt a b ≡ true
-test_lt a b h = grind (arith, nat_tests)
-
-test_ge : (a b : ℕ) → b ≤ a → nat_lt a b ≡ false
-test_ge a b h = grind (arith, nat_tests)
-
 pub encode_two : (c : ℕ) → 128 ≤ c → c < 2048 → ((192 + c / 64) ∷ (128 + c % 64) ∷ []) ≡ encode_utf8 c
 unfolding encode_utf8
 encode_two c h g =
-    let a : nat_lt c 128 ≡ false = test_ge c 128 h in
-    let b : nat_lt c 2048 ≡ true = test_lt c 2048 g in
+    let a : nat_lt c 128 ≡ false = le-ltb c 128 h in
+    let b : nat_lt c 2048 ≡ true = lt-ltb c 2048 g in
     rw (a, b) refl
 
 pub encode_three : (c : ℕ) → 2048 ≤ c → c < 65536 → ((224 + c / 4096) ∷ (128 + c / 64 % 64) ∷ (128 + c % 64) ∷ []) ≡ encode_utf8 c
 unfolding encode_utf8
 encode_three c h g =
-    let a : nat_lt c 128 ≡ false = test_ge c 128 (omega arith) in
-    let b : nat_lt c 2048 ≡ false = test_ge c 2048 h in
-    let d : nat_lt c 65536 ≡ true = test_lt c 65536 g in
+    let a : nat_lt c 128 ≡ false = le-ltb c 128 (omega arith) in
+    let b : nat_lt c 2048 ≡ false = le-ltb c 2048 h in
+    let d : nat_lt c 65536 ≡ true = lt-ltb c 65536 g in
     rw (a, b, d) refl
 
 pub encode_four : (c : ℕ) → 65536 ≤ c → ((240 + c / 262144) ∷ (128 + c / 4096 % 64) ∷ (128 + c / 64 % 64) ∷ (128 + c % 64) ∷ []) ≡ encode_utf8 c
 unfolding encode_utf8
 encode_four c h =
-    let a : nat_lt c 128 ≡ false = test_ge c 128 (omega arith) in
-    let b : nat_lt c 2048 ≡ false = test_ge c 2048 (omega arith) in
-    let d : nat_lt c 65536 ≡ false = test_ge c 65536 h in
+    let a : nat_lt c 128 ≡ false = le-ltb c 128 (omega arith) in
+    let b : nat_lt c 2048 ≡ false = le-ltb c 2048 (omega arith) in
+    let d : nat_lt c 65536 ≡ false = le-ltb c 65536 h in
     rw (a, b, d) refl
 
 -- ---- names

@@ -1,12 +1,13 @@
 -- What the definition's reader reads is derived by the grammar.
-use Rattle.std.proofs.Common.{◌≡◌, ℕ, zero, suc, ◌+◌, ◌-◌, ◌*◌, ◌≤◌, ◌==◌, Bool, true, false, cond, not, ◌||◌, ◌⊎◌, inl, inr, List, [], ◌∷◌, ◌++◌, Option, Some, None, length, drop, take, refl, ap, sym, ◌∙◌, subst, arith, option_map, option_and_then, codes, nat_eq, nat_lt, append_assoc, length-append}
+use Rattle.std.proofs.Common.{◌≡◌, ℕ, zero, suc, ◌+◌, ◌-◌, ◌*◌, ◌==◌, Bool, true, false, cond, not, ◌||◌, ◌⊎◌, inl, inr, List, [], ◌∷◌, ◌++◌, Option, Some, None, length, drop, take, refl, ap, sym, ◌∙◌, subst, arith, option_map, option_and_then, codes, nat_eq, nat_lt, append_assoc, length-append}
 use Rattle.std.specs.List.{starts_with, prefix_len}
 use Rattle.std.specs.Char.{is_ascii_digit}
 use Rattle.std.specs.Str.{is_utf8}
-use Rattle.std.proofs.lemmas.Bool.{eqb-true, false≢true}
+use Rattle.std.proofs.lemmas.Bool.{eqb-true, false≢true, ltb-false}
 use Rattle.std.proofs.lemmas.Bool.Decides.{nat_tests}
 use Rattle.std.proofs.lemmas.List.{take-append-drop, take_at}
 use lib.Pointwise.{bytes_decides}
+use Rattle.vs_defs.specs.Limits.{max_json_depth}
 use Rattle.vs_defs.specs.Bytes.{Bytes}
 use Rattle.vs_defs.specs.Numeral as numeral
 use Rattle.vs_defs.specs.Numeral.{digits_of, after_digits, is_empty}
@@ -72,12 +73,9 @@ some_digits t e = some_digits_by t (digits_cases t) e
 
 -- ---- numbers
 
-head_zero : (c : ℕ) → (c == 48) ≡ true → c ≡ 48
-head_zero c h = grind (arith, nat_tests)
-
 whole_by : (c : ℕ) (cs : Bytes) (v : Bool) → is_ascii_digit c ≡ true → (c == 48) ≡ v → (not v || is_empty (digits_of cs)) ≡ true → Digits (c ∷ cs) (drop (length (digits_of cs)) cs) → Whole (c ∷ cs) (drop (length (digits_of cs)) cs)
 whole_by c cs false d z e h = grammar.first_digit c z h
-whole_by c cs true d z e h = rw (no_bytes (digits_of cs) e, head_zero c z) grammar.zero_alone
+whole_by c cs true d z e h = rw (no_bytes (digits_of cs) e, eqb-true c 48 z) grammar.zero_alone
 
 whole_head : (c : ℕ) (cs : Bytes) (v : Bool) → is_ascii_digit c ≡ v → is_whole_part (digits_of (c ∷ cs)) ≡ true → Whole (c ∷ cs) (after_digits (c ∷ cs))
 whole_head c cs false d e = absurd (false≢true (sym (ap is_whole_part (head_none c cs d)) ∙ e))
@@ -94,11 +92,8 @@ after_some : (t r : Bytes) (v : Bool) → is_empty (digits_of t) ≡ v → cond 
 after_some t r true e h = absurd (cc)
 after_some t r false e h = let g : after_digits t ≡ r = cc in subst (Digits t) g (some_digits t e)
 
-head_point : (c : ℕ) → (c == 46) ≡ true → c ≡ 46
-head_point c h = grind (arith, nat_tests)
-
 fraction_by : (c : ℕ) (cs r : Bytes) (v : Bool) → (c == 46) ≡ v → cond v (cond (is_empty (digits_of cs)) None (Some (after_digits cs))) (Some (c ∷ cs)) ≡ Some r → Fraction (c ∷ cs) r
-fraction_by c cs r true e h = rw (head_point c e) (grammar.fraction (after_some cs r (is_empty (digits_of cs)) refl h))
+fraction_by c cs r true e h = rw (eqb-true c 46 e) (grammar.fraction (after_some cs r (is_empty (digits_of cs)) refl h))
 fraction_by c cs r false e h = let g : (c ∷ cs) ≡ r = cc in subst (Fraction (c ∷ cs)) g grammar.no_fraction
 
 fraction_read : (t r : Bytes) → after_fraction t ≡ Some r → Fraction t r
@@ -129,11 +124,8 @@ unsigned_by : (t r : Bytes) (v : Bool) → is_whole_part (digits_of t) ≡ v →
 unsigned_by t r true e h = parts_by t r (after_fraction (after_digits t)) refl (whole_read t e) h
 unsigned_by t r false e h = absurd (cc)
 
-head_minus : (c : ℕ) → (c == 45) ≡ true → c ≡ 45
-head_minus c h = grind (arith, nat_tests)
-
 number_by : (c : ℕ) (cs r : Bytes) (v : Bool) → (c == 45) ≡ v → (let body = cond v cs (c ∷ cs) in cond (is_whole_part (digits_of body)) (option_and_then after_exponent (after_fraction (after_digits body))) None) ≡ Some r → Number (c ∷ cs) r
-number_by c cs r true e h = rw (head_minus c e) (grammar.minus (unsigned_by cs r (is_whole_part (digits_of cs)) refl h))
+number_by c cs r true e h = rw (eqb-true c 45 e) (grammar.minus (unsigned_by cs r (is_whole_part (digits_of cs)) refl h))
 number_by c cs r false e h = grammar.plus (unsigned_by (c ∷ cs) r (is_whole_part (digits_of (c ∷ cs))) refl h)
 
 pub number_read : (t r : Bytes) → after_number t ≡ Some r → Number t r
@@ -243,12 +235,9 @@ escape_ok : (t : Bytes) → PieceOk (92 ∷ t) (escape_at t)
 escape_ok [] = tt
 escape_ok (c ∷ cs) = escape_ok_by c cs (c == 117) refl
 
-not_control : (c : ℕ) → nat_lt c 32 ≡ false → 32 ≤ c
-not_control c h = grind (arith, nat_tests)
-
 plain_ok : (c : ℕ) (cs : Bytes) (v : Bool) → (c == 34) ≡ false → (c == 92) ≡ false → nat_lt c 32 ≡ v → PieceOk (c ∷ cs) (cond v None (Some (json.plain c, cs)))
 plain_ok c cs true q b e = tt
-plain_ok c cs false q b e = λ ps end h. grammar.unescaped c (not_control c e) q b h
+plain_ok c cs false q b e = λ ps end h. grammar.unescaped c (ltb-false c 32 e) q b h
 
 piece_ok_by : (c : ℕ) (cs : Bytes) (v : Bool) → (c == 34) ≡ false → (c == 92) ≡ v → PieceOk (c ∷ cs) (cond v (escape_at cs) (cond (nat_lt c 32) None (Some (json.plain c, cs))))
 piece_ok_by c cs true q e = subst (λ x. PieceOk (x ∷ cs) (escape_at cs)) (sym (eqb-true c 92 e)) (escape_ok cs)
@@ -379,7 +368,7 @@ all_read (suc k) =
 
 -- ---- whole texts
 
-whole_end : (s : Bytes) (j : Json) (p : Json × Bytes) (v : Bool) → is_utf8 s ≡ true → SpacedValue 64 s p.0 p.1 → is_empty (skip_space p.1) ≡ v → cond v (Some p.0) None ≡ Some j → Derived s j
+whole_end : (s : Bytes) (j : Json) (p : Json × Bytes) (v : Bool) → is_utf8 s ≡ true → SpacedValue max_json_depth s p.0 p.1 → is_empty (skip_space p.1) ≡ v → cond v (Some p.0) None ≡ Some j → Derived s j
 whole_end s j p false u h e f = absurd (cc)
 whole_end s j p true u h e f =
     let g : p.0 ≡ j = cc in
@@ -388,19 +377,19 @@ whole_end s j p true u h e f =
       at = h.0;
       rest = p.1;
       before = h.1;
-      spelled = subst (λ i. Value 64 i h.0 p.1) g h.2;
+      spelled = subst (λ i. Value max_json_depth i h.0 p.1) g h.2;
       after = subst (Space p.1) (no_bytes (skip_space p.1) e) (skipped p.1);
     }
 
-whole_read_by : (s : Bytes) (j : Json) (o : Front Json) → is_utf8 s ≡ true → Reads (SpacedValue 64 s) o → whole_value o ≡ Some j → Derived s j
+whole_read_by : (s : Bytes) (j : Json) (o : Front Json) → is_utf8 s ≡ true → Reads (SpacedValue max_json_depth s) o → whole_value o ≡ Some j → Derived s j
 whole_read_by s j None u h e = absurd (cc)
 whole_read_by s j (Some p) u h e = whole_end s j p (is_empty (skip_space p.1)) u h refl e
 
 abbrev json_by : Bool → Bytes → Option Json
-json_by v s = elim v [ true ↦ whole_value (value_within (2 * length s + 2) 64 s) | false ↦ None ]
+json_by v s = elim v [ true ↦ whole_value (value_within (2 * length s + 2) max_json_depth s) | false ↦ None ]
 
 read_by : (s : Bytes) (j : Json) (v : Bool) → is_utf8 s ≡ v → json_by v s ≡ Some j → Derived s j
-read_by s j true u e = whole_read_by s j (value_within (2 * length s + 2) 64 s) u ((all_read (2 * length s + 2)).values 64 s) e
+read_by s j true u e = whole_read_by s j (value_within (2 * length s + 2) max_json_depth s) u ((all_read (2 * length s + 2)).values max_json_depth s) e
 read_by s j false u e = absurd (cc)
 
 pub read_is_derived : (s : Bytes) (j : Json) → json_of s ≡ Some j → Derived s j

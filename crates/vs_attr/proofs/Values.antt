@@ -4,7 +4,7 @@ use Rattle.vs_defs.specs.Bytes.{Bytes}
 use Rattle.vs_defs.specs.Numeral.{begins_with}
 use Rattle.vs_defs.specs.Json.{Json, Items, no_items, item, Members, no_members, member, Front, then_read, Piece, bytes_of, mark_at, skip_space, plain_value_at}
 use Rattle.vs_defs.specs.AttributeField.{is_named}
-use Rattle.vs_attr.specs.Reading.{pieces_at, value_at, items_at, members_at, rest_of, value_of, string_at, after_name, member_at, text_at, array_at, object_at, value_from}
+use Rattle.vs_attr.specs.Reading.{pieces_at, value_at, items_at, members_at, rest_of, value_of, string_at, after_name, member_at, text_at, array_at, object_at, value_from, member_depth}
 use Rattle.vs_attr.specs.Fields.{named_in, found_value, IsReadable}
 use Rattle.vs_attr.proofs.Bodies.{on_mark}
 use Rattle.vs_attr.proofs.Lengths.{Leaves-rest_of}
@@ -195,31 +195,31 @@ pub some_value : {A : Type 0} (o : Front A) (r : Bytes) → rest_of o ≡ Some r
 some_value None r e = absurd (cc)
 some_value (Some p) r e = refl
 
-pub latest_value : (v : Bytes) (o : Option Bytes) (b : Bool) → found_value (cond b (Some v) o) ≡ cond b (value_of (value_at 63 v)) (found_value o)
+pub latest_value : (v : Bytes) (o : Option Bytes) (b : Bool) → found_value (cond b (Some v) o) ≡ cond b (value_of (value_at member_depth v)) (found_value o)
 latest_value v o true = refl
 latest_value v o false = refl
 
-pub latest_readable : (v : Bytes) (o : Option Bytes) (b : Bool) → IsSome (value_of (value_at 63 v)) → IsReadable o → IsReadable (cond b (Some v) o)
+pub latest_readable : (v : Bytes) (o : Option Bytes) (b : Bool) → IsSome (value_of (value_at member_depth v)) → IsReadable o → IsReadable (cond b (Some v) o)
 latest_readable v o true h g = h
 latest_readable v o false h g = g
 
-latest_is : (name v : Bytes) (n : Option Bytes) (f g : Option Bytes) (b : Bool) → b ≡ is_named name n → g ≡ cond b (Some v) f → found_value g ≡ cond (is_named name n) (value_of (value_at 63 v)) (found_value f)
+latest_is : (name v : Bytes) (n : Option Bytes) (f g : Option Bytes) (b : Bool) → b ≡ is_named name n → g ≡ cond b (Some v) f → found_value g ≡ cond (is_named name n) (value_of (value_at member_depth v)) (found_value f)
 latest_is name v n f g b e h =
-    ap found_value h ∙ latest_value v f b ∙ ap (λ x. cond x (value_of (value_at 63 v)) (found_value f)) e
+    ap found_value h ∙ latest_value v f b ∙ ap (λ x. cond x (value_of (value_at member_depth v)) (found_value f)) e
 
-pub named_step : (name t b colon r more : Bytes) (f g : Option Bytes) (v : Bool) → member_at t ≡ Some (b, colon) → rest_of (value_at 63 colon) ≡ Some r → mark_at 44 r ≡ Some more → v ≡ is_named name (string_at b) → g ≡ cond v (Some colon) f → named_in name (found_value g) (members_at 63 more) ≡ named_in name (found_value f) (members_at 63 t)
+pub named_step : (name t b colon r more : Bytes) (f g : Option Bytes) (v : Bool) → member_at t ≡ Some (b, colon) → rest_of (value_at member_depth colon) ≡ Some r → mark_at 44 r ≡ Some more → v ≡ is_named name (string_at b) → g ≡ cond v (Some colon) f → named_in name (found_value g) (members_at member_depth more) ≡ named_in name (found_value f) (members_at member_depth t)
 named_step name t b colon r more f g v e w m n h =
-    ap (λ x. named_in name x (members_at 63 more)) (latest_is name colon (string_at b) f g v n h) ∙ sym (named_more name (found_value f) 63 t b colon r more e w m)
+    ap (λ x. named_in name x (members_at member_depth more)) (latest_is name colon (string_at b) f g v n h) ∙ sym (named_more name (found_value f) member_depth t b colon r more e w m)
 
 abbrev pub with_found : Option Json → Option Bytes → Option (Option Json × Bytes)
 with_found found o = option_map (λ after. (found, after)) o
 
-named_stop : (name t b colon r : Bytes) (f g : Option Bytes) (v : Bool) → member_at t ≡ Some (b, colon) → rest_of (value_at 63 colon) ≡ Some r → mark_at 44 r ≡ None → v ≡ is_named name (string_at b) → g ≡ cond v (Some colon) f → with_found (found_value g) (mark_at 125 r) ≡ named_in name (found_value f) (members_at 63 t)
+named_stop : (name t b colon r : Bytes) (f g : Option Bytes) (v : Bool) → member_at t ≡ Some (b, colon) → rest_of (value_at member_depth colon) ≡ Some r → mark_at 44 r ≡ None → v ≡ is_named name (string_at b) → g ≡ cond v (Some colon) f → with_found (found_value g) (mark_at 125 r) ≡ named_in name (found_value f) (members_at member_depth t)
 named_stop name t b colon r f g v e w m n h =
-    ap (λ x. with_found x (mark_at 125 r)) (latest_is name colon (string_at b) f g v n h) ∙ sym (named_last name (found_value f) 63 t b colon r e w m)
+    ap (λ x. with_found x (mark_at 125 r)) (latest_is name colon (string_at b) f g v n h) ∙ sym (named_last name (found_value f) member_depth t b colon r e w m)
 
-pub named_done : (name t b colon r after : Bytes) (f g : Option Bytes) (v : Bool) → member_at t ≡ Some (b, colon) → rest_of (value_at 63 colon) ≡ Some r → mark_at 44 r ≡ None → v ≡ is_named name (string_at b) → g ≡ cond v (Some colon) f → mark_at 125 r ≡ Some after → with_found (found_value g) (Some after) ≡ named_in name (found_value f) (members_at 63 t)
+pub named_done : (name t b colon r after : Bytes) (f g : Option Bytes) (v : Bool) → member_at t ≡ Some (b, colon) → rest_of (value_at member_depth colon) ≡ Some r → mark_at 44 r ≡ None → v ≡ is_named name (string_at b) → g ≡ cond v (Some colon) f → mark_at 125 r ≡ Some after → with_found (found_value g) (Some after) ≡ named_in name (found_value f) (members_at member_depth t)
 named_done name t b colon r after f g v e w m n h a = sym (ap (with_found (found_value g)) a) ∙ named_stop name t b colon r f g v e w m n h
 
-pub named_open : (name t b colon r : Bytes) (f g : Option Bytes) (v : Bool) → member_at t ≡ Some (b, colon) → rest_of (value_at 63 colon) ≡ Some r → mark_at 44 r ≡ None → v ≡ is_named name (string_at b) → g ≡ cond v (Some colon) f → mark_at 125 r ≡ None → None ≡ named_in name (found_value f) (members_at 63 t)
+pub named_open : (name t b colon r : Bytes) (f g : Option Bytes) (v : Bool) → member_at t ≡ Some (b, colon) → rest_of (value_at member_depth colon) ≡ Some r → mark_at 44 r ≡ None → v ≡ is_named name (string_at b) → g ≡ cond v (Some colon) f → mark_at 125 r ≡ None → None ≡ named_in name (found_value f) (members_at member_depth t)
 named_open name t b colon r f g v e w m n h a = sym (ap (with_found (found_value g)) a) ∙ named_stop name t b colon r f g v e w m n h

@@ -1,6 +1,7 @@
 -- What a field stands for.
 use Rattle.std.specs.Prelude.{◌-◌, ◌==◌, true, false, cond, [], ◌∷◌, length, take, IsSome, Option, Some, None, option_map, option_and_then, option_copied}
 use Rattle.std.specs.Borrow.{Bor}
+use Rattle.vs_defs.specs.Limits.{max_json_depth}
 use Rattle.vs_defs.specs.Bytes.{Bytes}
 use Rattle.vs_defs.specs.Json.{Json, Members, Front, skip_space, whole_value, after_number}
 use Rattle.vs_defs.specs.Numeral.{is_empty}
@@ -8,7 +9,7 @@ use Rattle.vs_defs.specs.Decimal.{read_fixed}
 use Rattle.vs_defs.specs.AttributeField as attribute
 use Rattle.vs_attr.specs.declared.kind.Field.{Field}
 use Rattle.vs_attr.specs.declared.kind.Field.TheVariants as field
-use Rattle.vs_attr.specs.Reading.{value_at, value_of, string_at}
+use Rattle.vs_attr.specs.Reading.{value_at, value_of, string_at, member_depth}
 
 abbrev pub field_seen : Field → attribute.Field
 field_seen (field.Number billionths) = attribute.One (attribute.Number billionths)
@@ -32,13 +33,13 @@ single_from [] = attribute.NoKind
 single_from (c ∷ cs) =
     cond (c == 34) (attribute.text_field (string_at cs)) (cond (c == 91) attribute.NoKind (cond (c == 123) attribute.NoKind (plain_single (c ∷ cs))))
 
--- the value of a member, from where it begins: 64 may be open at once, and the object is
+-- the value of a member, from where it begins
 abbrev pub found_value : Option Bytes → Option Json
-found_value found = option_and_then (λ text. value_of (value_at 63 text)) found
+found_value found = option_and_then (λ text. value_of (value_at member_depth text)) found
 
 abbrev pub IsReadable : Option Bytes → Type 0
 IsReadable None = Unit {0}
-IsReadable (Some text) = IsSome (value_of (value_at 63 text))
+IsReadable (Some text) = IsSome (value_of (value_at member_depth text))
 
 -- of the members that were read, the value of the last of this name, or else what was found before, and what follows them
 abbrev pub named_in : Bytes → Option Json → Front Members → Option (Option Json × Bytes)
@@ -53,4 +54,4 @@ found_whole r = option_and_then (λ p. cond (is_empty (skip_space p.1)) p.0 None
 
 -- the value of the last member of this name in the object that a whole text is
 abbrev pub member_found : Bytes → Bytes → Option Json
-member_found name text = option_and_then (λ j. attribute.member_value name j) (whole_value (value_at 64 text))
+member_found name text = option_and_then (λ j. attribute.member_value name j) (whole_value (value_at max_json_depth text))

@@ -6,6 +6,7 @@
 use Rattle.std.specs.Prelude.{◌≡◌, ℕ, suc, ◌≤◌, ◌==◌, true, false, ◌||◌, List, [], ◌∷◌, ◌++◌, Some, codes}
 use Rattle.std.specs.Char.{is_ascii_digit}
 use Rattle.std.specs.Str.{is_utf8}
+use Rattle.vs_defs.specs.Limits.{max_json_depth}
 use Rattle.vs_defs.specs.Bytes.{Bytes}
 use Rattle.vs_defs.specs.Json as json
 use Rattle.vs_defs.specs.Json.{Json, Items, Members, Piece, is_space, short_escape, code_unit, bytes_of, json_of}
@@ -95,7 +96,7 @@ pub record Derived (s : Bytes) (j : Json) : Type 0 where
   pub at : Bytes
   pub rest : Bytes
   pub before : Space s at
-  pub spelled : Value 64 j at rest
+  pub spelled : Value max_json_depth j at rest
   pub after : Space rest []
 
 -- the definition's reader reads exactly what is derived

@@ -3,11 +3,10 @@ use Rattle.std.specs.Prelude.{List, [], Option, Some, None, option_map, option_a
 use Rattle.vs_defs.specs.Bytes.{Bytes}
 use Rattle.vs_defs.specs.Json.{Items, mark_at}
 use Rattle.vs_defs.specs.AttributeField.{Single, singles_of}
-use Rattle.vs_attr.specs.Reading.{items_at, value_at, value_of, rest_of}
+use Rattle.vs_attr.specs.Reading.{items_at, value_at, value_of, rest_of, item_depth}
 
--- 64 may be open at once, and an object and an array are
 abbrev pub items_from : Bytes → Option Items
-items_from text = value_of (items_at 62 text)
+items_from text = value_of (items_at item_depth text)
 
 -- from the next item on, if there is one
 abbrev pub items_left : Option Bytes → List Single
@@ -31,4 +30,4 @@ IsArrayInside inside = AreItems (begun inside (mark_at 93 inside))
 
 -- from the item behind the first on
 abbrev pub item_next : Bytes → Option Bytes
-item_next text = option_and_then (mark_at 44) (rest_of (value_at 62 text))
+item_next text = option_and_then (mark_at 44) (rest_of (value_at item_depth text))

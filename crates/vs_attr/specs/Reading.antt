@@ -5,6 +5,7 @@
 --     string_at raw             the bytes that a text stands for, whose inside begins there
 --     member_at text            a member's beginning: where the inside of its name begins, and what follows its colon
 use Rattle.std.specs.Prelude.{ℕ, zero, suc, ◌==◌, cond, ◌+◌, ◌-◌, ◌*◌, true, false, List, [], ◌∷◌, Option, Some, None, option_map, option_and_then, length}
+use Rattle.vs_defs.specs.Limits.{max_json_depth}
 use Rattle.vs_defs.specs.Bytes.{Bytes}
 use Rattle.vs_defs.specs.Numeral.{begins_with}
 use Rattle.vs_defs.specs.Json.{Json, Text, Array, Object, Items, no_items, Members, no_members, Front, Piece, unit, mark_at, piece_at, plain_value_at, bytes_of, pieces_within, value_within, items_within, members_within}
@@ -20,6 +21,13 @@ items_at depth text = items_within (2 * length text + 2) depth text
 
 unfoldable pub members_at : ℕ → Bytes → Front Members
 members_at depth text = members_within (2 * length text + 2) depth text
+
+-- how many objects and arrays a value may have open within an object, which is open itself, and within an array in one
+abbrev pub member_depth : ℕ
+member_depth = max_json_depth - 1
+
+abbrev pub item_depth : ℕ
+item_depth = max_json_depth - 2
 
 -- what follows a value that was read
 abbrev pub rest_of : {A : Type 0} → Front A → Option Bytes

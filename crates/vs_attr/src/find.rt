@@ -4,7 +4,7 @@
 ghost use Rattle.std.specs.Prelude.{◌≡◌, cond, Some, None, IsSome, IfSome, option_map, option_copied};
 ghost use Rattle.std.specs.Str.{is_utf8 as is_utf8_text};
 ghost use Rattle.vs_defs.specs.AttributeField.{field_of_value, field_of, is_object as is_object_text};
-ghost use Rattle.vs_attr.specs.Reading.{value_at, members_at, value_of};
+ghost use Rattle.vs_attr.specs.Reading.{value_at, members_at, value_of, member_depth};
 ghost use Rattle.vs_attr.specs.Fields.{field_seen, found_value, found_seen, named_in, member_found, found_whole, IsReadable};
 
 use crate::kind::{Field, single};
@@ -22,8 +22,8 @@ const MEMBER_DEPTH: u32 = MAX_JSON_DEPTH - 1;
 
 /// The value of a member, which stands in front.
 fn member_value<'a>(text: &'a [u8]) -> Field<'a>
-    requires { IsSome (value_of (value_at 63 text.now)) }
-    ensures { Some (field_seen result) ≡ option_map field_of_value (value_of (value_at 63 text.now)) }
+    requires { IsSome (value_of (value_at member_depth text.now)) }
+    ensures { Some (field_seen result) ≡ option_map field_of_value (value_of (value_at member_depth text.now)) }
 {
     match mark_at(b'[', text) {
         Some(inside) => Field::List(JsonList::new(inside)),
@@ -41,7 +41,7 @@ fn latest<'a>(is_named: bool, value: &'a [u8], found: Option<&'a [u8]>) -> Optio
 /// Where the value of the last member of this name begins, if there is one,
 /// and the text behind the object, which has one member at least.
 fn last_member<'a>(text: &'a [u8], name: &[u8]) -> Option<(Option<&'a [u8]>, &'a [u8])>
-    ensures value { found_seen result ≡ named_in name.now None (members_at 63 text.now) }
+    ensures value { found_seen result ≡ named_in name.now None (members_at member_depth text.now) }
     ensures readable { IfSome result (λ r. IsReadable (option_copied r.0)) }
 {
     let mut text = text;
@@ -63,7 +63,7 @@ fn last_member<'a>(text: &'a [u8], name: &[u8]) -> Option<(Option<&'a [u8]>, &'a
 /// Where the value of the last member of this name begins in an object with
 /// one member at least, behind which nothing but white space stands.
 fn whole_member<'a>(inside: &'a [u8], name: &[u8]) -> Option<&'a [u8]>
-    ensures value { found_value (option_copied result) ≡ found_whole (named_in name.now None (members_at 63 inside.now)) }
+    ensures value { found_value (option_copied result) ≡ found_whole (named_in name.now None (members_at member_depth inside.now)) }
     ensures readable { IsReadable (option_copied result) }
 {
     let (found, rest) = last_member(inside, name)?;

@@ -1,7 +1,7 @@
 -- Messages served in turn: one more at the end.
-use Rattle.std.proofs.Common.{◌≡◌, ◌≢◌, ℕ, All, arith, Bool, List, [], ◌∷◌, ◌++◌, refl, sym, ap, subst, ◌∙◌, append_assoc, append-nil, true, false}
+use Rattle.std.proofs.Common.{◌≡◌, ◌≢◌, ℕ, Bool, List, [], ◌∷◌, ◌++◌, refl, sym, ap, subst, ◌∙◌, append_assoc, append-nil, true, false}
 use Rattle.std.specs.Prelude.{MatchBool, IsTrue, zip}
-use Rattle.std.proofs.lemmas.List.Elements.{All-tail, All-cons}
+use Rattle.std.proofs.lemmas.List.Elements.{All-nil, All-head, All-tail, All-cons}
 use Rattle.rand_pcg.specs.Lcg.{Lcg}
 use Rattle.vs_defs.specs.Bytes.{Bytes}
 use Rattle.vs_defs.specs.Stream.{Message}
@@ -32,14 +32,8 @@ none_behind false = tt
 abbrev IsAnswered : Message × Outcome → Type 0
 IsAnswered p = IsTrue (is_ping_or_quit p.0) → p.1 ≢ OutOfMemory
 
-none_all : {X : Type 0} (P : X → Type 0) → All P []
-none_all P = λ k d h. absurd (omega (arith, h))
-
 pub none_pinged : PingsAnswered [] []
-none_pinged = none_all IsAnswered
-
-first_of : {X : Type 0} (P : X → Type 0) (x : X) (xs : List X) → All P (x ∷ xs) → P x
-first_of P x xs all = all 0 x (omega arith)
+none_pinged = All-nil IsAnswered
 
 module _ {H : Type 0} (call : CallOn H) (k : ℕ) where
   -- one more message is served, where the last one was no QUIT
@@ -64,9 +58,9 @@ module _ {H : Type 0} (call : CallOn H) (k : ℕ) where
   -- a PING or a QUIT among them was answered
   pub pings_push : (g : Lcg) (s : H) (ms : List Message) (os : List Outcome) (t : H) (h : Lcg) (m : Message) (o : Outcome) →
       Serves call k g s ms os t h → PingsAnswered ms os → IsAnswered (m, o) → PingsAnswered (ms ++ m ∷ []) (os ++ o ∷ [])
-  pings_push g s [] [] t h m o w all one = All-cons IsAnswered (m, o) [] one (none_all IsAnswered)
+  pings_push g s [] [] t h m o w all one = All-cons IsAnswered (m, o) [] one (All-nil IsAnswered)
   pings_push g s [] (p ∷ os) t h m o w all one = absurd w
   pings_push g s (n ∷ ms) [] t h m o w all one = absurd w
   pings_push g s (n ∷ ms) (p ∷ os) t h m o (mid, k, first, end, rest) all one =
-      All-cons IsAnswered (n, p) (zip (ms ++ m ∷ []) (os ++ o ∷ [])) (first_of IsAnswered (n, p) (zip ms os) all)
+      All-cons IsAnswered (n, p) (zip (ms ++ m ∷ []) (os ++ o ∷ [])) (All-head IsAnswered (n, p) (zip ms os) all)
       (pings_push k mid ms os t h m o rest (All-tail IsAnswered (n, p) (zip ms os) all) one)

@@ -6,7 +6,7 @@ use Rattle.vs_defs.specs.Bytes.{Bytes}
 use Rattle.vs_defs.specs.Stream.{Message, End, Splits, with_words, has_word}
 use Rattle.vs_defs.specs.Reply.{Outcome, OutOfMemory, reply}
 use Rattle.vs_defs.specs.History.{IsPrefix}
-use Rattle.vs_session_defs.specs.Session.{is_bye, is_ping_or_quit, quits, replies, last_reply, ending_of, ending_by, closing_line}
+use Rattle.vs_session_defs.specs.Session.{is_bye, is_ping_or_quit, quits, replies, last_reply, ending_by, closing_line}
 use Rattle.vs_session_defs.specs.Session as session
 use Rattle.vs_stream.specs.Given.{GivenFirst}
 use Rattle.vs_resp.specs.declared.Decoder.{Decoder}

@@ -1,6 +1,7 @@
 //! What serves the messages of a connection, one after another.
 ghost use Rattle.std.specs.Prelude.{◌≡◌, ◌≢◌, ◌<◌, ◌≤◌, ℕ, length, All};
 ghost use Rattle.rand_pcg.specs.Lcg.{Lcg};
+ghost use Rattle.vs_defs.specs.Limits.{max_message_words, max_word_bytes};
 ghost use Rattle.vs_connection.specs.Served.{IsServed, IsReplied};
 ghost use Rattle.vs_connection.specs.Stage.{CallOn};
 
@@ -34,8 +35,8 @@ pub trait Handler {
     /// Serves one message of 1 to 65,536 words of at most 65,536 bytes each. The reply is written whole unless the sink fails.
     fn handle<K: Sink>(&mut self, message: &[Text], sink: &mut K) -> Replied
         requires some { 0 < length message.now }
-        requires few { length message.now ≤ 65536 }
-        requires short { All (λ word. length word ≤ 65536) message.now }
+        requires few { length message.now ≤ max_message_words }
+        requires short { All (λ word. length word ≤ max_word_bytes) message.now }
         ensures served { (author : ℕ) (h : Known) (g : Lcg) → after self.old author h g
             → IsServed call author (after self.new author) (IsReplied result (K.written sink.old) (K.written sink.new)) g h message.now }
         ensures failed { result ≡ Replied.Failed → K.faults sink.old < K.faults sink.new }

@@ -1,10 +1,11 @@
 -- Each kind of step keeps the rule, whatever follows in a history.
-use Rattle.std.proofs.Common.{◌≡◌, ◌≢◌, ℕ, zero, suc, ◌+◌, ◌%◌, ◌^◌, ◌<◌, Bool, true, false, true≢false, ◌==◌, if◌then◌else◌, List, [], ◌∷◌, ◌++◌, length, refl, ap, sym, ◌∙◌, subst, ⊎_elim, arith, length-append}
+use Rattle.std.proofs.Common.{◌≡◌, ◌≢◌, ℕ, zero, suc, ◌+◌, ◌%◌, ◌^◌, ◌<◌, Bool, true, false, ◌==◌, if◌then◌else◌, List, [], ◌∷◌, ◌++◌, length, refl, ap, sym, ◌∙◌, subst, ⊎_elim, arith, length-append}
 use Rattle.std.specs.Prelude.{slice_set, slice_index}
 use mathlib.Core.List.{IsPrefix}
 use mathlib.Core.Option.{some, some-injective, some-ne-none}
 use lib.ListN.{get_elem?}
 use native.Mathlib.Decide.{ℕ_discrete}
+use Rattle.std.proofs.lemmas.Bool.{false≢true}
 use Rattle.std.proofs.lemmas.Bool.Decides.{nat_tests}
 use Rattle.atomic_table.specs.Table.{State, Me, keeps, Allows, Splits, Joins, opening}
 use Rattle.atomic_table.proofs.Lists.{at_set, set_here, set_else, at_longer, at_last}
@@ -12,9 +13,6 @@ use Rattle.vs_defs.specs.History.{History, Entry, Legal, own}
 use Rattle.vs_thread_defs.specs.Rule.{View, keeper, pass, note, nobody, picked, unled, counted, taken, returned, settled, appended, AllBegin, Fits, Led, Kept, Settled, Appended}
 use Rattle.vs_history.proofs.Beginnings.{prefix_self, prefix_trans, prefix_push, each_set, each_push}
 use Rattle.vs_history.proofs.Histories.{legal_begin, own_between, own-push-own, own-push-other, below_none, below_more, below_push, longer_begins, all_begin-more}
-
-off : false ≡ true → ⊥
-off e = true≢false (sym e)
 
 module _ {S : Type 0} (Follows : History S → Entry S → Type 0) where
   abbrev Keeps : State ℕ (View S) → Type 0
@@ -53,7 +51,7 @@ module _ {S : Type 0} (Follows : History S → Entry S → Type 0) where
   begins = record { log = []; leader = 0; seat = λ n. 0; made = 0; chief = 0; words_are = refl; legal = tt; led = record { view = keeper 0 [] true; there = refl; has = refl }; below = tt; fits = one }
     where
       one : (by : ℕ) (v : View S) → get_elem? (keeper 0 [] true ∷ []) by ≡ some v → Fits [] 0 (λ n. 0) 0 0 by v
-      one zero v e = subst (Fits [] 0 (λ n. 0) 0 0 0) (some-injective _ _ e) (record { lead = λ _. (refl, refl); begins = prefix_self []; olds = tt; passes = λ p. absurd (off p); keeps = λ _. (refl, refl) })
+      one zero v e = subst (Fits [] 0 (λ n. 0) 0 0 0) (some-injective _ _ e) (record { lead = λ _. (refl, refl); begins = prefix_self []; olds = tt; passes = λ p. absurd (false≢true p); keeps = λ _. (refl, refl) })
       one (suc by) v e = absurd (some-ne-none v (sym e))
 
   -- the same view beside another leader
@@ -84,8 +82,8 @@ module _ {S : Type 0} (Follows : History S → Entry S → Type 0) where
         fits = each_push (Fits k.log (length views) k.seat k.made k.chief) views (note v.seen v.lead)
             (each_set (Fits k.log (length views) k.seat k.made k.chief) s.views id (unled v)
             (λ j u apart h. relead (length views) (k.fits j u h) (λ l. absurd (apart (((k.fits j u h).lead l).0 ∙ sym (mine.lead e).0))))
-            (record { lead = λ l. absurd (off l); begins = mine.begins; olds = mine.olds; passes = mine.passes; keeps = mine.keeps }))
-            (record { lead = λ l. (refl, (mine.lead e).1); begins = mine.begins; olds = tt; passes = λ p. absurd (off p); keeps = λ p. absurd (off p) });
+            (record { lead = λ l. absurd (false≢true l); begins = mine.begins; olds = mine.olds; passes = mine.passes; keeps = mine.keeps }))
+            (record { lead = λ l. (refl, (mine.lead e).1); begins = mine.begins; olds = tt; passes = λ p. absurd (false≢true p); keeps = λ p. absurd (false≢true p) });
       }
       go false e = record {
         log = k.log;
@@ -95,13 +93,13 @@ module _ {S : Type 0} (Follows : History S → Entry S → Type 0) where
         chief = k.chief;
         words_are = k.words_are;
         legal = k.legal;
-        led = led_push views k.leader (note v.seen v.lead) (led_set s.views id k.leader v (unled v) at (λ l. absurd (off (sym e ∙ l))) k.led);
+        led = led_push views k.leader (note v.seen v.lead) (led_set s.views id k.leader v (unled v) at (λ l. absurd (false≢true (sym e ∙ l))) k.led);
         below = k.below;
         fits = each_push (Fits k.log k.leader k.seat k.made k.chief) views (note v.seen v.lead)
             (each_set (Fits k.log k.leader k.seat k.made k.chief) s.views id (unled v)
             (λ j u apart h. k.fits j u h)
-            (record { lead = λ l. absurd (off l); begins = mine.begins; olds = mine.olds; passes = mine.passes; keeps = mine.keeps }))
-            (record { lead = λ l. absurd (off (sym e ∙ l)); begins = mine.begins; olds = tt; passes = λ p. absurd (off p); keeps = λ p. absurd (off p) });
+            (record { lead = λ l. absurd (false≢true l); begins = mine.begins; olds = mine.olds; passes = mine.passes; keeps = mine.keeps }))
+            (record { lead = λ l. absurd (false≢true (sym e ∙ l)); begins = mine.begins; olds = tt; passes = λ p. absurd (false≢true p); keeps = λ p. absurd (false≢true p) });
       }
 
   -- the list that is picked goes on from both, and begins the history
@@ -115,7 +113,7 @@ module _ {S : Type 0} (Follows : History S → Entry S → Type 0) where
   led_by false id leader = leader
 
   nobody_fits : {log : History S} {leader : ℕ} {seat : ℕ → ℕ} {made chief by : ℕ} → Fits log leader seat made chief by nobody
-  nobody_fits {log} = record { lead = λ l. absurd (off l); begins = (log, refl); olds = tt; passes = λ p. absurd (off p); keeps = λ p. absurd (off p) }
+  nobody_fits {log} = record { lead = λ l. absurd (false≢true l); begins = (log, refl); olds = tt; passes = λ p. absurd (false≢true p); keeps = λ p. absurd (false≢true p) }
 
   -- a pass without the lead takes a note in, and keeps what both had seen for a load to settle
   pub takes : (id : ℕ) (v : View S) (other : ℕ) (n : View S) → v.lead ≡ false → Joins Keeps id v other n (taken v n) nobody
@@ -162,12 +160,12 @@ module _ {S : Type 0} (Follows : History S → Entry S → Type 0) where
         chief = k.chief;
         words_are = k.words_are;
         legal = k.legal;
-        led = led_set (slice_set s.views id w) other k.leader n nobody there (λ l. absurd (off (sym e ∙ l))) (led_set s.views id k.leader v w at (λ l. absurd (off (sym no_lead ∙ l))) k.led);
+        led = led_set (slice_set s.views id w) other k.leader n nobody there (λ l. absurd (false≢true (sym e ∙ l))) (led_set s.views id k.leader v w at (λ l. absurd (false≢true (sym no_lead ∙ l))) k.led);
         below = k.below;
         fits = each_set (Fits k.log k.leader k.seat k.made k.chief) (slice_set s.views id w) other nobody
             (λ j u away h. each_set (Fits k.log k.leader k.seat k.made k.chief) s.views id w
             (λ j u _ h. k.fits j u h)
-            (record { lead = λ l. absurd (off (sym e ∙ l)); begins = lists.2; olds = (lists.0, (lists.1, all_begin-more v.olds v.seen w.seen lists.0 mine.olds)); passes = entries; keeps = mine.keeps })
+            (record { lead = λ l. absurd (false≢true (sym e ∙ l)); begins = lists.2; olds = (lists.0, (lists.1, all_begin-more v.olds v.seen w.seen lists.0 mine.olds)); passes = entries; keeps = mine.keeps })
             j u h)
             nobody_fits;
       }
@@ -187,7 +185,7 @@ module _ {S : Type 0} (Follows : History S → Entry S → Type 0) where
     fits = each_set (Fits k.log id k.seat k.made k.chief) (slice_set s.views id w) other nobody
         (λ j u away h. each_set (λ j u. j ≢ other → Fits k.log id k.seat k.made k.chief j u) s.views id w
         (λ j u _ h away. relead id (k.fits j u h) (λ l. absurd (away (((k.fits j u h).lead l).0 ∙ sym (theirs.lead lead).0))))
-        (λ _. record { lead = λ l. (refl, whole); begins = subst (λ l. IsPrefix l k.log) (sym whole) (prefix_self k.log); olds = subst (λ os. AllBegin os w.seen) (sym no_olds) tt; passes = λ p. absurd (off (sym no_pass ∙ p)); keeps = mine.keeps })
+        (λ _. record { lead = λ l. (refl, whole); begins = subst (λ l. IsPrefix l k.log) (sym whole) (prefix_self k.log); olds = subst (λ os. AllBegin os w.seen) (sym no_olds) tt; passes = λ p. absurd (false≢true (sym no_pass ∙ p)); keeps = mine.keeps })
         j u h away)
         nobody_fits;
   }
@@ -219,13 +217,13 @@ module _ {S : Type 0} (Follows : History S → Entry S → Type 0) where
     fits = each_push (Fits k.log k.leader seat (k.made + 1) k.chief) views new
         (each_set (Fits k.log k.leader seat (k.made + 1) k.chief) s.views id (counted v)
         (λ j u apart h. let f = k.fits j u h in record { lead = f.lead; begins = f.begins; olds = f.olds; passes = kept u.seen u.own u.number j f.passes; keeps = λ p. absurd (apart ((f.keeps p).0 ∙ sym (mine.keeps chief).0)) })
-        (record { lead = mine.lead; begins = mine.begins; olds = mine.olds; passes = λ p. absurd (off (sym no_pass ∙ p)); keeps = λ p. ((mine.keeps p).0, ap (λ (n : ℕ). n + 1) (mine.keeps p).1) }))
+        (record { lead = mine.lead; begins = mine.begins; olds = mine.olds; passes = λ p. absurd (false≢true (sym no_pass ∙ p)); keeps = λ p. ((mine.keeps p).0, ap (λ (n : ℕ). n + 1) (mine.keeps p).1) }))
         (record {
-          lead = λ l. absurd (off l);
+          lead = λ l. absurd (false≢true l);
           begins = mine.begins;
           olds = tt;
           passes = λ _. (sym (seat_new v.made made_is), (let h = made_is in omega arith), none_begin, subst (λ (n : ℕ). own n k.log ≡ []) (sym made_is) (below_none k.made k.log k.below));
-          keeps = λ p. absurd (off p);
+          keeps = λ p. absurd (false≢true p);
         });
   }
     where
@@ -266,7 +264,7 @@ module _ {S : Type 0} (Follows : History S → Entry S → Type 0) where
     chief = k.chief;
     words_are = k.words_are;
     legal = k.legal;
-    led = led_set (slice_set s.views id v) other k.leader p nobody there (λ l. absurd (off (sym no_lead ∙ l))) (led_set s.views id k.leader v v at (λ l. l) k.led);
+    led = led_set (slice_set s.views id v) other k.leader p nobody there (λ l. absurd (false≢true (sym no_lead ∙ l))) (led_set s.views id k.leader v v at (λ l. l) k.led);
     below = k.below;
     fits = each_set (Fits k.log k.leader k.seat k.made k.chief) (slice_set s.views id v) other nobody
         (λ j u away h. each_set (Fits k.log k.leader k.seat k.made k.chief) s.views id v (λ j u _ h. k.fits j u h) (k.fits id v at) j u h)

@@ -2,7 +2,7 @@
 --     split_empty            no ids
 --     is_free, is_small      the id that is taken next
 --     pushed, removed        what is taken and free after a name comes or goes
-use Rattle.std.proofs.Common.{◌≡◌, ℕ, ◌<◌, ◌≤◌, ◌+◌, ◌-◌, ◌^◌, false, List, [], ◌∷◌, ◌++◌, length, take, refl, sym, ap, ◌∙◌, subst, arith, get_or, append_assoc, append-nil, length-append}
+use Rattle.std.proofs.Common.{◌≡◌, ℕ, ◌<◌, ◌≤◌, ◌+◌, ◌-◌, false, List, [], ◌∷◌, ◌++◌, length, take, refl, sym, ap, ◌∙◌, subst, arith, get_or, append_assoc, append-nil, length-append}
 use Rattle.std.specs.Prelude.{All, nat_eq, swap_remove}
 use Rattle.std.specs.Cmp.{nat_eq_equiv}
 use Rattle.std.specs.List.{list_any, IsDistinct, slice_set}
@@ -13,6 +13,7 @@ use Rattle.std.proofs.lemmas.List.Elements.{All-nil, All-push, All-from_recursio
 use Rattle.std.proofs.lemmas.List.Folds.{list_any_none}
 use Rattle.std.proofs.lemmas.List.Sorted.{All-permutation, IsPermutation-refl, IsPermutation-sym, IsPermutation-trans, IsPermutation-append_left, IsPermutation-append_right, IsPermutation-to_front, IsPermutation-middle, IsPermutation-swap_remove, length_permutation}
 use Rattle.std.proofs.lemmas.Map.Keys.{IsDistinct-IsPermutation, IsDistinct-head, IsDistinct-push}
+use Rattle.vs_defs.specs.Limits.{max_members}
 use Rattle.vs_laws.proofs.Tests.{nat_eq_flips}
 use Rattle.vs_order.specs.Ids.{AreSplit, next_id, next_after}
 
@@ -64,7 +65,7 @@ is_free taken (x ∷ xs) next s =
     not_in taken (take (length (x ∷ xs) - 1) (x ∷ xs)) (get_or (x ∷ xs) (length (x ∷ xs) - 1) next)
     (IsDistinct-IsPermutation nat_eq nat_eq_flips (taken ++ x ∷ xs) ((taken ++ get_or (x ∷ xs) (length (x ∷ xs) - 1) next ∷ []) ++ take (length (x ∷ xs) - 1) (x ∷ xs)) (last_moves taken x xs next) s.once)
 
-pub is_small : (taken free : List ℕ) (next : ℕ) → AreSplit taken free next → length taken < 2 ^ 20 → next_id free next < 2 ^ 20
+pub is_small : (taken free : List ℕ) (next : ℕ) → AreSplit taken free next → length taken < max_members → next_id free next < max_members
 is_small taken [] next s room = omega (arith, room, s.counted)
 is_small taken (x ∷ xs) next s room =
     let n : ℕ = length (x ∷ xs) - 1 in
@@ -72,7 +73,7 @@ is_small taken (x ∷ xs) next s room =
     let here : get_or (taken ++ x ∷ xs) (length taken + n) next < next = s.below (length taken + n) next (omega (arith, low, length-append taken (x ∷ xs))) in
     omega (arith, s.few, subst (λ k. k < next) (get_or-append-add taken (x ∷ xs) n next) here)
 
-pub pushed : (taken free : List ℕ) (next : ℕ) → AreSplit taken free next → length taken < 2 ^ 20
+pub pushed : (taken free : List ℕ) (next : ℕ) → AreSplit taken free next → length taken < max_members
     → AreSplit (taken ++ next_id free next ∷ []) (take (length free - 1) free) (next_after free next)
 pushed taken [] next s room = record {
   once = subst (IsDistinct nat_eq) (sym (append-nil (taken ++ next ∷ [])))

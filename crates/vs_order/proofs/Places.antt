@@ -2,12 +2,12 @@
 --     place_there            the place of an id that is taken
 --     with_last, without     the places after a member comes or goes
 --     swap_default, removed_entries      what the removal at a place leaves
-use Rattle.std.proofs.Common.{◌≡◌, ◌≢◌, ℕ, zero, suc, ◌<◌, ◌+◌, ◌-◌, Bool, true, false, not, cond, ◌||◌, List, [], ◌∷◌, ◌++◌, length, take, map, refl, sym, ap, ◌∙◌, subst, arith, inl, inr, get_or, set, length-take-le, ltb, ◌≤◌}
+use Rattle.std.proofs.Common.{◌≡◌, ◌≢◌, ℕ, zero, suc, ◌<◌, ◌+◌, ◌-◌, Bool, true, false, not, cond, ◌||◌, List, [], ◌∷◌, ◌++◌, length, take, map, refl, sym, ap, ◌∙◌, subst, arith, inl, inr, get_or, set, length-take-le}
 use Rattle.std.specs.Prelude.{Some, None, IsSomeAnd, nat_eq, nat_lt, position, slice_get, swap_remove}
 use Rattle.std.specs.declared.option.Option.{Option}
 use Rattle.std.specs.Map.{keys_of}
 use Rattle.std.specs.List.{list_any, position_or_len}
-use Rattle.std.proofs.lemmas.Bool.{both_ways, eqb-true, eq-eqb, cases_eq, lt-ltb, ltb-true, false_from_ne_true}
+use Rattle.std.proofs.lemmas.Bool.{both_ways, eqb-true, eq-eqb, cases_eq, le-ltb, lt-ltb}
 use Rattle.std.proofs.lemmas.List.{length-map, get_or_default, get_or-map, get_or_append_left, get_or_push, get_or-take, get_or-set_same, get_or-set_other, length-set, length_push, take-map, map-set}
 use Rattle.std.proofs.lemmas.List.Folds.{list_any_at}
 use Rattle.std.proofs.lemmas.List.Sums.{position_or_len_is}
@@ -89,9 +89,6 @@ entry_there f (x ∷ xs) (suc k) id d lt is = entry_there f xs k id d (omega (ar
 pub entry_at : (es : Entries) (k id : ℕ) → k < length (ids_of es) → get_or (ids_of es) k id ≡ id → IsSomeAnd (slice_get es k) (λ e. id ≡ e.1)
 entry_at es k id lt is = entry_there (λ (e : Bytes × ℕ). e.1) es k id id (omega (arith, lt, length-map es (λ (e : Bytes × ℕ). e.1))) is
 
-not-ltb : (a b : ℕ) → b ≤ a → ltb a b ≡ false
-not-ltb a b h = false_from_ne_true (ltb a b) (λ t. absurd (omega (arith, h, ltb-true a b t)))
-
 -- the first place of a name: none before it has the name
 pub found_first : (name : Bytes) (names : List Bytes) (place : ℕ) → place < length names → ((k : ℕ) → k < place → same_name name (get_or names k []) ≡ false) → same_name name (get_or names place []) ≡ true
     → position (same_name name) names ≡ Some place
@@ -102,7 +99,7 @@ found_first name names place low before is =
 pub found_none : (name : Bytes) (names : List Bytes) (place : ℕ) → place ≡ length names → ((k : ℕ) → k < place → same_name name (get_or names k []) ≡ false) → position (same_name name) names ≡ None
 found_none name names place all before =
     let first : position_or_len (same_name name) names ≡ place = position_or_len_is (same_name name) names place [] (omega (arith, all)) before (λ lt. absurd (omega (arith, lt, all))) in
-    (λ t. cond (nat_lt (first t) (length names)) (Some (first t)) None) ∙ ap (λ b. cond b (Some place) None) (not-ltb place (length names) (omega (arith, all)))
+    (λ t. cond (nat_lt (first t) (length names)) (Some (first t)) None) ∙ ap (λ b. cond b (Some place) None) (le-ltb place (length names) (omega (arith, all)))
 
 pub name_here : (es : Entries) (k : ℕ) (n : Bytes) → IsSomeAnd (slice_get es k) (λ (e : Bytes × ℕ). n ≡ e.0) → get_or (keys_of es) k [] ≡ n
 name_here [] k n h = absurd h

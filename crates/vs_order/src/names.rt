@@ -1,6 +1,7 @@
 //! Names with the ids of their members, changed in place, and the ids that are free: together the ids are the numbers below a bound, each
 //! once.
-ghost use Rattle.std.specs.Prelude.{◌≡◌, ◌<◌, ◌≤◌, ◌^◌, ◌-◌, ◌++◌, ◌∷◌, [], false, length, take, None, OnOk, vec_capacity};
+ghost use Rattle.std.specs.Prelude.{◌≡◌, ◌<◌, ◌≤◌, ◌-◌, ◌++◌, ◌∷◌, [], false, length, take, None, OnOk, vec_capacity};
+ghost use Rattle.vs_defs.specs.Limits.{max_members};
 ghost use Rattle.vs_order.specs.Entries.{place_of, id_of, is_taken, without_place};
 ghost use Rattle.vs_order.specs.Ids.{next_id, next_after};
 
@@ -74,7 +75,7 @@ impl Names {
     /// How many names.
     pub fn len(&self) -> u32
         ensures value { result ≡ length self.now.entries }
-        ensures few { result ≤ 2 ^ 20 }
+        ensures few { result ≤ max_members }
     {
         self.map.len() as u32
     }
@@ -98,10 +99,10 @@ impl Names {
 
     /// The id that the next name takes.
     pub fn next_id(&self) -> u32
-        requires { length self.now.entries < 2 ^ 20 }
+        requires { length self.now.entries < max_members }
         ensures value { result ≡ self.now.next }
         ensures free { is_taken result self.now.entries ≡ false }
-        ensures small { result < 2 ^ 20 }
+        ensures small { result < max_members }
     {
         next_of(&self.free, self.next)
     }
@@ -121,7 +122,7 @@ impl Names {
     pub fn push(&mut self, name: Name)
         requires room { 0 < self.old.room }
         requires new { id_of name self.old.entries ≡ None }
-        requires few { length self.old.entries < 2 ^ 20 }
+        requires few { length self.old.entries < max_members }
         ensures { self.new.entries ≡ self.old.entries ++ (name, self.old.next) ∷ [] }
     {
         let id = take_id(&mut self.free, &mut self.next);

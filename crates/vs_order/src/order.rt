@@ -1,6 +1,7 @@
 //! What a snapshot keeps of a set's order: by each place the id and the name of its member, and by each id the place. Both are in pages
 //! that copies share, so that whoever holds the old order sees it as it was, and a change copies what it touches and no more.
-ghost use Rattle.std.specs.Prelude.{◌≡◌, ◌<◌, ◌≤◌, ◌^◌, ◌++◌, ◌∷◌, [], true, false, length, IfOk, slice_get, IsSomeAnd};
+ghost use Rattle.std.specs.Prelude.{◌≡◌, ◌<◌, ◌≤◌, ◌++◌, ◌∷◌, [], true, false, length, IfOk, slice_get, IsSomeAnd};
+ghost use Rattle.vs_defs.specs.Limits.{max_members};
 ghost use Rattle.vs_order.specs.Entries.{is_taken, place_of, place_of_id, without_place};
 
 use crate::Name;
@@ -34,8 +35,9 @@ pub struct Order {
 }
 
 impl Model for Order {
-    ghost use Rattle.std.specs.Prelude.{◌≤◌, ◌^◌, length};
+    ghost use Rattle.std.specs.Prelude.{◌≤◌, length};
     ghost use Rattle.vs_page.specs.Changes.{items_of};
+    ghost use Rattle.vs_defs.specs.Limits.{max_members};
     ghost use Rattle.vs_order.specs.Entries.{Entries, ids_of};
     ghost use Rattle.vs_order.specs.Listed.{entries_of, ArePlaces};
 
@@ -43,7 +45,7 @@ impl Model for Order {
 
     ghost view = { λ o. entries_of o.members };
 
-    ghost invariant = { λ o. ArePlaces (ids_of (entries_of o.members)) (items_of o.places) × (length o.members ≤ 2 ^ 20) };
+    ghost invariant = { λ o. ArePlaces (ids_of (entries_of o.members)) (items_of o.places) × (length o.members ≤ max_members) };
 }
 
 impl Order {
@@ -70,7 +72,7 @@ impl Order {
     /// How many members.
     pub fn len(&self) -> u32
         ensures value { result ≡ length self.now }
-        ensures few { result ≤ 2 ^ 20 }
+        ensures few { result ≤ max_members }
     {
         self.members.len()
     }
@@ -124,7 +126,7 @@ impl Order {
     /// The order with one more member, who goes last.
     pub fn with_last(&self, name: &Name, id: u32) -> Result<Order, NoMemory>
         requires free { is_taken id self.now ≡ false }
-        requires few { length self.now < 2 ^ 20 }
+        requires few { length self.now < max_members }
         ensures { IfOk result (λ order. order ≡ self.now ++ (name.now, id) ∷ []) }
     {
         let mut members = self.members.try_clone()?;

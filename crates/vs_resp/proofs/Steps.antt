@@ -8,6 +8,7 @@ use Rattle.vs_resp.specs.declared.Stage.TheVariants.{Start, Star, Minus, MinusOn
 use Rattle.vs_resp.specs.declared.FeedError.{FeedError}
 use Rattle.vs_resp.specs.declared.FeedError.TheVariants.{NoMemory, Protocol}
 use Rattle.vs_resp.specs.Stands.{fault_of, at_stage, reader_of, NotLost, IsGoing, Stands, failure_at, answer_of, FeedMeans}
+use Rattle.vs_defs.specs.Limits.{max_message_bytes}
 use Rattle.vs_defs.specs.Bytes.{Bytes}
 use Rattle.vs_defs.specs.Stream.{Message}
 use Rattle.vs_stream.specs.Machine.{State, start, bulk, body, body_end, after_bulk}
@@ -127,7 +128,7 @@ body_stands d e fed given xs n is some stage within state gone count m =
     (subst (λ (n' : ℕ). Means true n' (reading (given ++ d.ready.items) (body d.left d.sum d.words (d.want - n) (d.word.items ++ xs))) (fed ++ xs)) (sym count) more))
 
 -- a whole bulk, of n bytes; the decoder counts them afterwards
-pub bulk_stands : (d e : Decoder) (fed : Bytes) (given : List Message) (xs word : Bytes) (n : ℕ) → length xs ≡ n → d.stage ≡ Bulk → IsBulk xs word → d.sum + length word ≤ 4194304 →
+pub bulk_stands : (d e : Decoder) (fed : Bytes) (given : List Message) (xs word : Bytes) (n : ℕ) → length xs ≡ n → d.stage ≡ Bulk → IsBulk xs word → d.sum + length word ≤ max_message_bytes →
     (NotLost e → reader_of e ≡ taken d.fed d.ready.items (after_bulk d.left (d.sum + length word) (d.words ++ word ∷ []))) →
     (e.stage ≡ Lost → e.ready.items ≡ d.ready.items) → e.fed ≡ d.fed → Stands d fed given → Means true (e.fed + n) (prefixed given (reader_of e)) (fed ++ xs)
 bulk_stands d e fed given xs word n is stage whole few state gone count m =

@@ -2,6 +2,7 @@
 use Rattle.std.proofs.Common.{◌≡◌, ◌<◌, ◌≤◌, ◌+◌, ◌-◌, ℕ, suc, Bool, true, false, cond, ◌&&◌, ◌==◌, nat_lt, List, [], ◌∷◌, ◌++◌, length, take, drop, get_or, refl, sym, ap, ap₂, subst, ◌∙◌, arith, append_assoc, append-nil, take-add, length-take, length-drop}
 use Rattle.std.proofs.lemmas.Grind.{common_steps}
 use Rattle.std.specs.Char.{is_ascii_digit}
+use Rattle.vs_defs.specs.Limits.{max_count_digits, max_message_bytes, max_word_bytes}
 use Rattle.vs_defs.specs.Bytes.{Bytes}
 use Rattle.vs_defs.specs.Stream.{Message, Fault, BadLength, LengthTooLarge, MessageTooLarge, digit_onto, length_past}
 use Rattle.vs_stream.specs.Machine.{State, bulk, len, len_end, body, body_end, Next, Goes, Breaks, len_step, step}
@@ -34,11 +35,11 @@ leads_reading n ms s t fed (c ∷ cs) so a =
 first_of : (large : Bool) (x y : Bool × Fault) → large ≡ false → cond large x y ≡ y
 first_of large x y is = rw is refl
 
-not_past : (sum n : ℕ) → n ≤ 65536 → sum + n ≤ 4194304 → (length_past sum n).0 ≡ false
+not_past : (sum n : ℕ) → n ≤ max_word_bytes → sum + n ≤ max_message_bytes → (length_past sum n).0 ≡ false
 not_past sum n few all =
-    let large : nat_lt 65536 n ≡ false = grind (arith, common_steps) in
-    let long : nat_lt 4194304 (sum + n) ≡ false = grind (arith, common_steps) in
-    ap (λ (p : Bool × Fault). p.0) (first_of (nat_lt 65536 n) (true, LengthTooLarge) (nat_lt 4194304 (sum + n), MessageTooLarge) large) ∙ long
+    let large : nat_lt max_word_bytes n ≡ false = grind (arith, common_steps) in
+    let long : nat_lt max_message_bytes (sum + n) ≡ false = grind (arith, common_steps) in
+    ap (λ (p : Bool × Fault). p.0) (first_of (nat_lt max_word_bytes n) (true, LengthTooLarge) (nat_lt max_message_bytes (sum + n), MessageTooLarge) large) ∙ long
 
 goes_when : (digit short past : Bool) (x y z : Next) → digit ≡ true → short ≡ true → past ≡ false →
     elim (digit && short) [ true ↦ elim past [ true ↦ x | false ↦ y ] | false ↦ z ] ≡ y
@@ -47,15 +48,15 @@ goes_when true true true x y z a b c = cc
 goes_when true false past x y z a b c = cc
 goes_when false short past x y z a b c = cc
 
-digit_goes : (l sum : ℕ) (ws : List Bytes) (k n c : ℕ) → is_ascii_digit c ≡ true → k < 7 → digit_onto n c ≤ 65536 → sum + digit_onto n c ≤ 4194304 →
+digit_goes : (l sum : ℕ) (ws : List Bytes) (k n c : ℕ) → is_ascii_digit c ≡ true → k < max_count_digits → digit_onto n c ≤ max_word_bytes → sum + digit_onto n c ≤ max_message_bytes →
     len_step l sum ws k n c ≡ Goes (len l sum ws (k + 1) (digit_onto n c))
 digit_goes l sum ws k n c digit less few all =
-    let short : nat_lt k 7 ≡ true = grind (arith, common_steps) in
-    goes_when (is_ascii_digit c) (nat_lt k 7) (length_past sum (digit_onto n c)).0 (Breaks (length_past sum (digit_onto n c)).1) (Goes (len l sum ws (k + 1) (digit_onto n c)))
+    let short : nat_lt k max_count_digits ≡ true = grind (arith, common_steps) in
+    goes_when (is_ascii_digit c) (nat_lt k max_count_digits) (length_past sum (digit_onto n c)).0 (Breaks (length_past sum (digit_onto n c)).1) (Goes (len l sum ws (k + 1) (digit_onto n c)))
     (elim (nat_lt 0 k) [ true ↦ cond (c == 13) (Goes (len_end l sum ws n)) (Breaks BadLength) | false ↦ Breaks BadLength ])
     digit short (not_past sum (digit_onto n c) few all)
 
-pub leads_digit : (l sum : ℕ) (ws : List Bytes) (k n c : ℕ) (ds : Bytes) → is_ascii_digit c ≡ true → k < 7 → digit_onto n c ≤ 65536 → sum + digit_onto n c ≤ 4194304 →
+pub leads_digit : (l sum : ℕ) (ws : List Bytes) (k n c : ℕ) (ds : Bytes) → is_ascii_digit c ≡ true → k < max_count_digits → digit_onto n c ≤ max_word_bytes → sum + digit_onto n c ≤ max_message_bytes →
     Leads (len l sum ws 0 0) ds (len l sum ws k n) → Leads (len l sum ws 0 0) (ds ++ c ∷ []) (len l sum ws (k + 1) (digit_onto n c))
 leads_digit l sum ws k n c ds digit less few all so =
     leads_on (len l sum ws 0 0) (len l sum ws k n) (len l sum ws (k + 1) (digit_onto n c)) ds (c ∷ []) so
@@ -105,7 +106,7 @@ leads_word l sum ws w (c ∷ cs) = (
 
 -- line is that of the length
 is_bulk : (text line word : Bytes) → text ≡ (line ++ word) ++ 13 ∷ 10 ∷ [] →
-    ((l sum : ℕ) (ws : List Bytes) → sum + length word ≤ 4194304 → Leads (bulk l sum ws) line (body l (sum + length word) ws (length word) [])) → IsBulk text word
+    ((l sum : ℕ) (ws : List Bytes) → sum + length word ≤ max_message_bytes → Leads (bulk l sum ws) line (body l (sum + length word) ws (length word) [])) → IsBulk text word
 is_bulk text line word is so l sum ws few = (
   (line ++ word) ++ 13 ∷ [],
   is ∙ sym (append_assoc (line ++ word) (13 ∷ []) (10 ∷ [])),
@@ -116,7 +117,7 @@ is_bulk text line word is so l sum ws few = (
 
 -- a line of s bytes, and v bytes of the word
 pub bulk_at_front : (p : Bytes) (s v : ℕ) → s + v ≤ length p → take 2 (drop (s + v) p) ≡ 13 ∷ 10 ∷ [] →
-    ((l sum : ℕ) (ws : List Bytes) → sum + v ≤ 4194304 → Leads (bulk l sum ws) (take s p) (body l (sum + v) ws v [])) → IsBulk (take (s + v + 2) p) (take (s + v - s) (drop s p))
+    ((l sum : ℕ) (ws : List Bytes) → sum + v ≤ max_message_bytes → Leads (bulk l sum ws) (take s p) (body l (sum + v) ws v [])) → IsBulk (take (s + v + 2) p) (take (s + v - s) (drop s p))
 bulk_at_front p s v within ended so =
     let same : s + v - s ≡ v = omega arith in
     let count : length (take v (drop s p)) ≡ v = omega (arith, length-take v (drop s p), length-drop s p) in
@@ -124,4 +125,4 @@ bulk_at_front p s v within ended so =
     take-add (s + v) 2 p ∙ ap₂ (λ (a b : Bytes). a ++ b) (take-add s v p) ended in
     subst (λ (i : ℕ). IsBulk (take (s + v + 2) p) (take i (drop s p))) (sym same)
     (is_bulk (take (s + v + 2) p) (take s p) (take v (drop s p)) text
-    (subst (λ (i : ℕ). (l sum : ℕ) (ws : List Bytes) → sum + i ≤ 4194304 → Leads (bulk l sum ws) (take s p) (body l (sum + i) ws i [])) (sym count) so))
+    (subst (λ (i : ℕ). (l sum : ℕ) (ws : List Bytes) → sum + i ≤ max_message_bytes → Leads (bulk l sum ws) (take s p) (body l (sum + i) ws i [])) (sym count) so))

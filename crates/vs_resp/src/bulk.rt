@@ -1,9 +1,11 @@
 //! Bulks: byte by byte where they are cut between pieces, and whole ones at once.
 ghost use Rattle.std.specs.Prelude.{◌≡◌, ◌<◌, ◌≤◌, ◌+◌, ◌-◌, ◌^◌, [], ◌∷◌, ◌++◌, length, take};
+ghost use Rattle.vs_defs.specs.Limits.{max_message_bytes, max_word_bytes};
 ghost use Rattle.vs_stream.specs.Machine.{body, len_step, after_bulk};
 ghost use Rattle.vs_stream.specs.Reader.{reading, taken};
 ghost use Rattle.vs_resp.specs.Stands.{reader_of, NotLost};
 
+use crate::limits::{MAX_COUNT_DIGITS, MAX_MESSAGE_BYTES, MAX_WORD_BYTES};
 use crate::{Decoder, Fault, Stage};
 use vs_outside::Text;
 
@@ -13,13 +15,13 @@ impl Decoder {
         ensures state { reader_of self.new ≡ taken self.old.fed self.old.ready.items (len_step self.old.left self.old.sum self.old.words self.old.digits self.old.value byte) }
         ensures fed { self.new.fed ≡ self.old.fed }
     {
-        if byte.is_ascii_digit() && self.digits < 7 {
+        if byte.is_ascii_digit() && self.digits < MAX_COUNT_DIGITS {
             let value = self.value * 10 + (byte - b'0') as u32;
-            if value > 65536 {
+            if value > MAX_WORD_BYTES {
                 self.fail(Fault::LengthTooLarge);
                 return;
             }
-            if self.sum + value > 4194304 {
+            if self.sum + value > MAX_MESSAGE_BYTES {
                 self.fail(Fault::MessageTooLarge);
                 return;
             }
@@ -80,8 +82,8 @@ impl Decoder {
 
     // Takes a whole bulk with this word.
     pub(crate) fn take_bulk(&mut self, word: &[u8])
-        requires length { length word.now ≤ 65536 }
-        requires sum { self.old.sum + length word.now ≤ 4194304 }
+        requires length { length word.now ≤ max_word_bytes }
+        requires sum { self.old.sum + length word.now ≤ max_message_bytes }
         ensures state { NotLost self.new → reader_of self.new
             ≡ taken self.old.fed self.old.ready.items (after_bulk self.old.left (self.old.sum + length word.now) (self.old.words ++ word.now ∷ [])) }
         ensures lost { self.new.stage ≡ Stage.Lost → self.new.ready.items ≡ self.old.ready.items }

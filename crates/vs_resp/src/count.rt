@@ -4,6 +4,7 @@ ghost use Rattle.vs_stream.specs.Machine.{star, step, begin_bulks, count_step};
 ghost use Rattle.vs_stream.specs.Reader.{taken};
 ghost use Rattle.vs_resp.specs.Stands.{reader_of, NotLost};
 
+use crate::limits::{MAX_COUNT_DIGITS, MAX_MESSAGE_WORDS};
 use crate::{Decoder, Fault, Stage};
 use vs_outside::List;
 
@@ -27,9 +28,9 @@ impl Decoder {
         ensures state { reader_of self.new ≡ taken self.old.fed self.old.ready.items (count_step self.old.digits self.old.value byte) }
         ensures fed { self.new.fed ≡ self.old.fed }
     {
-        if byte.is_ascii_digit() && self.digits < 7 {
+        if byte.is_ascii_digit() && self.digits < MAX_COUNT_DIGITS {
             let value = self.value * 10 + (byte - b'0') as u32;
-            if value > 65536 {
+            if value > MAX_MESSAGE_WORDS {
                 self.fail(Fault::CountTooLarge);
                 return;
             }

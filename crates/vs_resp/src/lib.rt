@@ -4,6 +4,7 @@
 ghost use Rattle.std.specs.Prelude.{true, ◌≡◌, ◌↔◌, IsTrue, ◌<◌, ◌≤◌, ◌+◌, ◌^◌, [], ◌++◌, List, length, IfNone, OnSome};
 ghost use Rattle.std.specs.Option.{option_to_list};
 ghost use Rattle.vs_defs.specs.Bytes.{Bytes};
+ghost use Rattle.vs_defs.specs.Limits.{max_message_bytes, max_word_bytes};
 ghost use Rattle.vs_defs.specs.Stream.{Message};
 ghost use Rattle.vs_stream.specs.Given.{GivenAll, GivenFirst, GivenBefore};
 ghost use Rattle.vs_stream.specs.Place.{IsStream};
@@ -13,6 +14,7 @@ use std::collections::VecDeque;
 
 mod bulk;
 mod count;
+mod limits;
 mod line;
 mod spare;
 mod step;
@@ -90,8 +92,9 @@ pub struct Decoder {
     word: Vec<u8>,
     spare: Spare,
     ready: VecDeque<List<Text>>,
-    ghost value_in_range: { value ≤ 65536 },
-    ghost sum_in_range: { sum + value ≤ 4194304 },
+    // A count, a length and the bytes of a line have the same limit.
+    ghost value_in_range: { value ≤ max_word_bytes },
+    ghost sum_in_range: { sum + value ≤ max_message_bytes },
 }
 
 impl Decoder {

@@ -5,6 +5,7 @@ ghost use Rattle.vs_stream.specs.Machine.{start, step, line_step, one_word};
 ghost use Rattle.vs_stream.specs.Reader.{reading, worded, taken};
 ghost use Rattle.vs_resp.specs.Stands.{reader_of, NotLost};
 
+use crate::limits::MAX_LINE_BYTES;
 use crate::{Decoder, Fault, Stage};
 use std::mem;
 use vs_outside::{List, Text};
@@ -36,7 +37,7 @@ impl Decoder {
             self.end_line();
             return;
         }
-        if self.value >= 65536 {
+        if self.value >= MAX_LINE_BYTES {
             self.fail(Fault::InlineTooLong);
             return;
         }

@@ -1,12 +1,14 @@
 //! Bytes are taken: one at a time, or those of a bulk together.
 ghost use Rattle.std.specs.Prelude.{true, false, ◌≡◌, ◌<◌, ◌≤◌, ◌+◌, ◌^◌, ◌++◌, List, length, take, OnSome, IfSome};
 ghost use Rattle.vs_defs.specs.Bytes.{Bytes};
+ghost use Rattle.vs_defs.specs.Limits.{max_message_bytes, max_word_bytes};
 ghost use Rattle.vs_defs.specs.Stream.{Message};
 ghost use Rattle.vs_stream.specs.Machine.{start};
 ghost use Rattle.vs_stream.specs.Reader.{reading, broken, worded, reader_step};
 ghost use Rattle.vs_resp.specs.Bulk.{IsBulk};
 ghost use Rattle.vs_resp.specs.Stands.{fault_of, reader_of, NotLost, IsGoing, Stands, failure, answer_of};
 
+use crate::limits::MAX_MESSAGE_BYTES;
 use crate::whole::{Bulk, whole_bulk};
 use crate::{Decoder, Fault, FeedError, Stage};
 use std::mem;
@@ -127,14 +129,14 @@ impl Decoder {
         ensures bulk { IfSome result (λ b. IsBulk (take b.size rest.now) b.word.now) }
         ensures within { IfSome result (λ b. b.size ≤ length rest.now) }
         ensures some { IfSome result (λ b. 0 < b.size) }
-        ensures length { IfSome result (λ b. length b.word.now ≤ 65536) }
-        ensures sum { IfSome result (λ b. self.now.sum + length b.word.now ≤ 4194304) }
+        ensures length { IfSome result (λ b. length b.word.now ≤ max_word_bytes) }
+        ensures sum { IfSome result (λ b. self.now.sum + length b.word.now ≤ max_message_bytes) }
     {
         if self.stage != Stage::Bulk {
             return None;
         }
         let bulk = whole_bulk(rest)?;
-        if self.sum as usize + bulk.word.len() > 4_194_304 {
+        if self.sum as usize + bulk.word.len() > MAX_MESSAGE_BYTES as usize {
             return None;
         }
         Some(bulk)

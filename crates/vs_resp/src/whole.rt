@@ -1,8 +1,11 @@
 //! A bulk that lies whole in a piece is found with its line ends.
 ghost use Rattle.std.specs.Prelude.{◌≡◌, ◌<◌, ◌≤◌, ◌+◌, ℕ, IsTrue, List, [], ◌∷◌, length, take, drop, IfSome};
 ghost use Rattle.vs_defs.specs.Bytes.{Bytes};
+ghost use Rattle.vs_defs.specs.Limits.{max_count_digits, max_message_bytes, max_word_bytes};
 ghost use Rattle.vs_stream.specs.Machine.{bulk, len, body};
 ghost use Rattle.vs_resp.specs.Bulk.{Leads, IsBulk};
+
+use crate::limits::{MAX_COUNT_DIGITS, MAX_WORD_BYTES};
 
 /// A number that bytes begin with, and how many bytes spell it.
 #[derive(Clone, Copy, Drop)]
@@ -20,17 +23,17 @@ pub(crate) struct Bulk<'a> {
 
 // The digits that the bytes begin with, at most 7 of them; none where they pass the longest word.
 fn digits(bytes: &[u8]) -> Option<Number>
-    ensures spells { IfSome result (λ n. (l sum : ℕ) (ws : List Bytes) → sum + n.value ≤ 4194304 → Leads (len l sum ws 0 0) (take n.size bytes.now) (len l sum ws n.size n.value)) }
+    ensures spells { IfSome result (λ n. (l sum : ℕ) (ws : List Bytes) → sum + n.value ≤ max_message_bytes → Leads (len l sum ws 0 0) (take n.size bytes.now) (len l sum ws n.size n.value)) }
     ensures within { IfSome result (λ n. n.size ≤ length bytes.now) }
-    ensures few { IfSome result (λ n. n.size ≤ 7) }
-    ensures value { IfSome result (λ n. n.value ≤ 65536) }
+    ensures few { IfSome result (λ n. n.size ≤ max_count_digits) }
+    ensures value { IfSome result (λ n. n.value ≤ max_word_bytes) }
 {
-    let most = bytes.len().min(7);
+    let most = bytes.len().min(MAX_COUNT_DIGITS as usize);
     let mut value: u32 = 0;
     let mut size: usize = 0;
     'digits: while size < most && bytes[size].is_ascii_digit() {
         value = value * 10 + (bytes[size] - b'0') as u32;
-        if value > 65536 {
+        if value > MAX_WORD_BYTES {
             return None;
         }
         size += 1;
@@ -52,9 +55,9 @@ fn ends_line(bytes: &[u8], at: usize) -> bool
 
 // The length that a bulk begins with, and the size of its line.
 fn length_line(bytes: &[u8]) -> Option<Number>
-    ensures leads { IfSome result (λ n. (l sum : ℕ) (ws : List Bytes) → sum + n.value ≤ 4194304 → Leads (bulk l sum ws) (take n.size bytes.now) (body l (sum + n.value) ws n.value [])) }
+    ensures leads { IfSome result (λ n. (l sum : ℕ) (ws : List Bytes) → sum + n.value ≤ max_message_bytes → Leads (bulk l sum ws) (take n.size bytes.now) (body l (sum + n.value) ws n.value [])) }
     ensures within { IfSome result (λ n. n.size ≤ length bytes.now) }
-    ensures value { IfSome result (λ n. n.value ≤ 65536) }
+    ensures value { IfSome result (λ n. n.value ≤ max_word_bytes) }
 {
     if bytes.is_empty() || bytes[0] != b'$' {
         return None;
@@ -75,7 +78,7 @@ pub(crate) fn whole_bulk(bytes: &[u8]) -> Option<Bulk>
     ensures bulk { IfSome result (λ b. IsBulk (take b.size bytes.now) b.word.now) }
     ensures within { IfSome result (λ b. b.size ≤ length bytes.now) }
     ensures some { IfSome result (λ b. 0 < b.size) }
-    ensures length { IfSome result (λ b. length b.word.now ≤ 65536) }
+    ensures length { IfSome result (λ b. length b.word.now ≤ max_word_bytes) }
 {
     let line = length_line(bytes)?;
     let end = line.size + line.value as usize;

@@ -1,14 +1,14 @@
 -- A new member of a set: what was added to the graph of ids is the definitions' addition to the set.
 --     inserts_at         the links by names, for any order of the ids before and after
 --     added              the first member, and a new name
-use Rattle.std.proofs.Common.{◌≡◌, ℕ, Bool, true, false, List, [], ◌∷◌, ◌++◌, refl, sym, ap, ◌∙◌, subst, is_some}
+use Rattle.std.proofs.Common.{◌≡◌, ℕ, Bool, true, List, [], ◌∷◌, ◌++◌, refl, sym, ap, ◌∙◌, subst, is_some}
 use Rattle.std.specs.Prelude.{Some, None, IsSomeAnd, option_map}
 use Rattle.std.specs.declared.option.Option.{Option}
 use Rattle.std.proofs.lemmas.Bool.{both_ways}
 use Rattle.std.proofs.lemmas.List.{map-append}
 use Rattle.vs_defs.specs.Bytes.{Bytes}
 use Rattle.vs_defs.specs.Request.{Add}
-use Rattle.vs_defs.specs.Store.{Member, Set, member_of, with_member}
+use Rattle.vs_defs.specs.Store.{Member, member_of, with_member}
 use Rattle.vs_defs.specs.Words.{bits_of_words}
 use Rattle.vs_defs.specs.PlainStep.{added_member, added_to}
 use Rattle.vs_defs.specs.Insertion.{IsChosen, IsLinkedBy, entry_by}
@@ -24,16 +24,13 @@ use Rattle.vs_order.specs.Entries.{Entries, ids_of, id_of}
 use Rattle.vs_set.specs.Kept.{set_by, AreNamed}
 use Rattle.vs_set.specs.Changed.{AddsMember}
 use Rattle.vs_set.specs.Grown.{IsGrown, cut_by}
+use Rattle.vs_laws.proofs.Options.{none_is}
 use Rattle.vs_set.proofs.Members.{found}
 
 -- ---- what there is without a member
 
-none_from : (o : Option Node) → is_some o ≡ false → o ≡ None
-none_from None h = refl
-none_from (Some node) h = absurd (both_ways true h refl)
-
 none_live : (at : ℕ → Option Node) → AreIds at [] → (q : ℕ) → at q ≡ None
-none_live at ids q = none_from (at q) (sym (ids.live q))
+none_live at ids q = none_is (at q) (sym (ids.live q))
 
 entry_none : (at : ℕ → Option Node) (entry : Option ℕ) → ((q : ℕ) → at q ≡ None) → IsEntry at entry → entry ≡ None
 entry_none at None none top = refl

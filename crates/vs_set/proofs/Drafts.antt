@@ -13,7 +13,7 @@ use Rattle.vs_defs.specs.Insertion.{IsLinkedBy}
 use Rattle.vs_graph.specs.declared.node.Node.{Node}
 use Rattle.vs_graph.specs.declared.node.Attr.{Attr}
 use Rattle.vs_graph.specs.Seen.{Seen}
-use Rattle.vs_graph.specs.Standing.{AreIds, members_of, set_of}
+use Rattle.vs_graph.specs.Standing.{AreIds, members_of}
 use Rattle.vs_insert.specs.declared.draft.Draft.{Draft}
 use Rattle.vs_insert.specs.Added.{IsAdded, entry_after}
 use Rattle.vs_insert.specs.Drafts.{names_down}

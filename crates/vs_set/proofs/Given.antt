@@ -3,7 +3,7 @@
 --     counted_given          how many members have an attribute then
 --     with_none              an attribute for a name that is no member's changes nobody
 --     kept_given, set_given, counts      the set after it
-use Rattle.std.proofs.Common.{◌≡◌, ◌≢◌, ℕ, ◌+◌, ◌≤◌, Bool, true, false, cond, List, [], ◌∷◌, refl, sym, ap, ◌∙◌, arith, subst, get_or, is_some, inl, inr}
+use Rattle.std.proofs.Common.{◌≡◌, ℕ, ◌+◌, ◌≤◌, Bool, true, false, cond, List, [], ◌∷◌, refl, sym, ap, ◌∙◌, arith, subst, get_or, is_some, inl, inr}
 use Rattle.std.specs.Prelude.{IsSome, option_map, Some, None}
 use Rattle.std.specs.Option.{option_map_or}
 use Rattle.std.specs.declared.option.Option.{Option}
@@ -21,7 +21,8 @@ use Rattle.vs_set.specs.Kept.{set_by, AreNamed, IsKept, attribute_count, one_if}
 use Rattle.vs_set.specs.Changed.{attributed}
 use Rattle.vs_set.specs.Given.{IsGiven}
 use Rattle.vs_set.proofs.Counting.{has_attr, count_has, count_one}
-use Rattle.vs_set.proofs.Members.{found, is_some_of_map}
+use Rattle.vs_laws.proofs.Options.{is_some_of_map}
+use Rattle.vs_set.proofs.Members.{found}
 
 abbrev name_in : Option Node → Bytes
 name_in o = option_map_or (λ body. body.name) (option_map (λ (n : Node). n.body) o) []

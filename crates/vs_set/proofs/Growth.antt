@@ -1,7 +1,7 @@
 -- A set whose graph has grown by a member: what is kept of it.
 --     named_grown, counted_grown      its entries, and how many members have an attribute
-use Rattle.std.proofs.Common.{◌≡◌, ◌≢◌, ℕ, zero, suc, ◌<◌, ◌+◌, true, List, [], ◌∷◌, ◌++◌, length, map, refl, sym, ap, ◌∙◌, subst, arith, get_or, is_some}
-use Rattle.std.specs.Prelude.{All, Some, None, IsSomeAnd, option_map, nat_eq}
+use Rattle.std.proofs.Common.{◌≡◌, ◌≢◌, ℕ, ◌<◌, ◌+◌, true, [], ◌∷◌, ◌++◌, length, sym, ap, ◌∙◌, subst, arith, get_or, is_some}
+use Rattle.std.specs.Prelude.{Some, None, IsSomeAnd, option_map, nat_eq}
 use Rattle.std.specs.declared.option.Option.{Option}
 use Rattle.std.specs.Option.{option_map_or}
 use Rattle.std.proofs.lemmas.Bool.{both_ways, eq-eqb}
@@ -12,7 +12,6 @@ use Rattle.vs_defs.specs.Bytes.{Bytes}
 use Rattle.vs_graph.specs.declared.node.Node.{Node}
 use Rattle.vs_graph.specs.declared.node.Attr.{Attr}
 use Rattle.vs_graph.specs.declared.node.Body.{Body}
-use Rattle.vs_graph.specs.Named.{is_live}
 use Rattle.vs_graph.specs.Standing.{AreIds, members_of, name_of}
 use Rattle.vs_unlink.specs.Unlinked.{bare}
 use Rattle.vs_unlink.proofs.Bare.{body_bare}
@@ -20,6 +19,7 @@ use Rattle.vs_insert.specs.declared.draft.Draft.{Draft}
 use Rattle.vs_insert.specs.Added.{IsAdded}
 use Rattle.vs_insert.specs.Chosen.{drafted_member}
 use Rattle.vs_order.specs.Entries.{Entries, ids_of}
+use Rattle.vs_laws.proofs.Options.{is_some_of_map}
 use Rattle.vs_set.specs.Kept.{AreNamed, attribute_count, one_if}
 use Rattle.vs_set.proofs.Counting.{count_push}
 
@@ -58,7 +58,4 @@ module _ (at new : ℕ → Option Node) (entry : Option ℕ) (m dim id : ℕ) (a
 
   pub counted_grown : attribute_count (members_of new dim (ids_of (entries ++ (draft.body.name, id) ∷ []))) ≡ attribute_count (members_of at dim (ids_of entries)) + one_if (is_some attr)
   counted_grown = ap (λ ids. attribute_count (members_of new dim ids)) more ∙ ap attribute_count (added.members (ids_of entries) kept.ids) ∙ count_push (members_of at dim (ids_of entries)) (drafted_member dim attr draft)
-      ∙ ap (λ b. attribute_count (members_of at dim (ids_of entries)) + one_if b) (is_some_text attr) where
-        is_some_text : (a : Option Attr) → is_some (option_map (λ (t : Attr). t.text) a) ≡ is_some a
-        is_some_text None = refl
-        is_some_text (Some t) = refl
+      ∙ ap (λ b. attribute_count (members_of at dim (ids_of entries)) + one_if b) (is_some_of_map (λ (t : Attr). t.text) attr)

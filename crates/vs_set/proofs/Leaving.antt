@@ -1,7 +1,7 @@
 -- A snapshot from which a member is taken out.
 --     is_out            what the removal's change leaves
 --     name_free         nobody that is left has its name
-use Rattle.std.proofs.Common.{◌≡◌, ◌≢◌, ℕ, Bool, true, false, List, [], refl, sym, ap, ◌∙◌, subst, is_some}
+use Rattle.std.proofs.Common.{◌≡◌, ◌≢◌, ℕ, true, false, [], refl, sym, ap, ◌∙◌, subst, is_some}
 use Rattle.std.specs.Prelude.{Some, None, IfSome, option_map}
 use Rattle.std.specs.Option.{option_map_or}
 use Rattle.std.specs.declared.option.Option.{Option}

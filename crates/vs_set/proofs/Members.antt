@@ -5,7 +5,6 @@
 --     sound            a set whose graph is good is sound
 --     named_empty      no entries are those of an empty graph
 --     fresh_name       a name that is no member is no live node's
---     is_some_of_map   whether there is one, of what is made of it
 use Rattle.std.proofs.Common.{◌≡◌, ◌≢◌, inl, inr, subst, ℕ, suc, ◌+◌, ◌^◌, Bool, true, false, not, cond, List, [], ◌∷◌, ◌≤◌, length, map, refl, sym, ap, ◌∙◌, arith, is_some}
 use Rattle.std.specs.Prelude.{All, option_map, position, Option, Some, None, IfSome, IsSome, nat_lt, nat_eq, ◌||◌}
 use Rattle.std.specs.List.{position_or_len, list_any}
@@ -13,6 +12,7 @@ use Rattle.std.specs.Option.{option_map_or}
 use Rattle.std.specs.Map.{keys_of}
 use Rattle.std.proofs.lemmas.Bool.{both_ways, or_cases, eqb-true, eq-eqb}
 use Rattle.std.proofs.Math.Bool.{or-true}
+use Rattle.vs_laws.proofs.Options.{is_some_of_map}
 use Rattle.std.proofs.lemmas.Slice.Eq.{bytes_eq-Decides}
 use Rattle.std.proofs.lemmas.List.{length-map}
 use Rattle.vs_defs.specs.Bytes.{Bytes, same_name}
@@ -29,10 +29,6 @@ use Rattle.vs_set.specs.Kept.{set_by, AreNamed, IsSound}
 position_of_map : {X Y : Type 0} (p : Y → Bool) (f : X → Y) (xs : List X) → position_or_len p (map f xs) ≡ position_or_len (λ x. p (f x)) xs
 position_of_map p f [] = refl
 position_of_map p f (x ∷ xs) = ap (λ n. cond (not (p (f x))) (1 + n) 0) (position_of_map p f xs)
-
-pub is_some_of_map : {X Y : Type 0} (f : X → Y) (o : Option X) → is_some (option_map f o) ≡ is_some o
-is_some_of_map f None = refl
-is_some_of_map f (Some x) = refl
 
 module _ (at : ℕ → Option Node) (m dim : ℕ) where
   pub names_are : (entries : Entries) → All (λ e. name_of at e.1 ≡ e.0) entries → names_of (members_of at dim (ids_of entries)) ≡ keys_of entries
@@ -113,10 +109,6 @@ named_empty at none = record {
 }
 
 -- ---- names that are free
-
-pub none_is : {X : Type 0} (o : Option X) → is_some o ≡ false → o ≡ None
-none_is None h = refl
-none_is (Some x) h = absurd (both_ways true h refl)
 
 some_cond : {X : Type 0} (b : Bool) (x : X) (o : Option X) → (b ≡ false → is_some o ≡ true) → is_some (cond b (Some x) o) ≡ true
 some_cond true x o h = refl

@@ -2,7 +2,7 @@
 --     is_same, others        who stands at the place has the name, and nobody else
 --     removed_at             its removal puts the last member at its place
 --     has_place              a name that has a place is a member's
-use Rattle.std.proofs.Common.{◌≡◌, ℕ, zero, suc, ◌-◌, ◌<◌, ◌≤◌, Bool, true, false, cond, List, [], ◌∷◌, Some, None, length, get_or, take, set, map, refl, sym, ap, ◌∙◌, arith, inl, inr, ltb}
+use Rattle.std.proofs.Common.{◌≡◌, ℕ, zero, suc, ◌-◌, ◌<◌, ◌≤◌, true, false, cond, List, [], ◌∷◌, Some, None, length, get_or, take, set, map, refl, sym, ap, ◌∙◌, arith, inl, inr, ltb}
 use Rattle.std.specs.Prelude.{slice_get, is_some, position}
 use Rattle.std.specs.List.{swap_remove, position_or_len}
 use Rattle.std.proofs.Math.Seq.{take-set-lt}

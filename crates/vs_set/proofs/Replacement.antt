@@ -2,14 +2,13 @@
 --     replaced           the addition of a name that is a member
 --     named_replaced     the entries are those before
 --     counted_replaced   how many members have an attribute
-use Rattle.std.proofs.Common.{◌≡◌, ℕ, ◌+◌, ◌≤◌, Bool, true, false, List, [], ◌∷◌, refl, sym, ap, ◌∙◌, subst, arith, is_some, get_or, inl, inr}
+use Rattle.std.proofs.Common.{◌≡◌, ℕ, ◌+◌, ◌≤◌, Bool, false, List, [], ◌∷◌, refl, sym, ap, ◌∙◌, subst, arith, is_some, get_or, inl, inr}
 use Rattle.std.specs.Prelude.{Some, None, IsSomeAnd, option_map}
 use Rattle.std.specs.declared.option.Option.{Option}
 use Rattle.std.specs.Option.{option_map_or}
 use Rattle.std.proofs.lemmas.Bool.{both_ways, cases_eq}
-use Rattle.vs_defs.specs.Bytes.{Bytes}
 use Rattle.vs_defs.specs.Request.{Add}
-use Rattle.vs_defs.specs.Store.{Member, Contents, Set, Wiring, member_of, with_replaced, no_member}
+use Rattle.vs_defs.specs.Store.{Member, Set, member_of, with_replaced, no_member}
 use Rattle.vs_defs.specs.PlainStep.{added_member, added_to}
 use Rattle.vs_defs.specs.Removal as rules
 use Rattle.vs_defs.specs.Removal.{Removes}
@@ -22,12 +21,12 @@ use Rattle.vs_graph.specs.Table.{without}
 use Rattle.vs_graph.specs.Standing.{AreIds, member_at, member_of_node, members_of, name_of, set_of, wiring_of}
 use Rattle.vs_insert.proofs.AddedAgain.{ids_again, members_again}
 use Rattle.vs_insert.proofs.Leavings.{ids_left, members_left}
-use Rattle.vs_insert.specs.Chosen.{drafted_member}
 use Rattle.vs_order.specs.Entries.{Entries, ids_of, id_of}
 use Rattle.vs_set.specs.Kept.{set_by, AreNamed, IsKept, attribute_count, one_if}
 use Rattle.vs_set.specs.Changed.{AddsMember}
 use Rattle.vs_set.specs.Grown.{IsGrown, text_of}
-use Rattle.vs_set.specs.Again.{IsOut, IsReplaced}
+use Rattle.vs_set.specs.Again.{IsReplaced}
+use Rattle.vs_laws.proofs.Options.{is_some_of_map}
 use Rattle.vs_set.proofs.Members.{found}
 use Rattle.vs_set.proofs.Growth.{name_kept, there_name}
 use Rattle.vs_set.proofs.Added.{name_is, same_member, inserts_at}
@@ -36,10 +35,6 @@ use Rattle.vs_set.proofs.Counting.{count_replaced, count_has}
 attr_there : (dim : ℕ) (a : Option Attr) (o : Option Node) → IsSomeAnd o (λ node. a ≡ node.attr) → (option_map_or (member_of_node dim) o no_member).attr ≡ text_of a
 attr_there dim a None h = absurd h
 attr_there dim a (Some node) h = ap text_of (sym h)
-
-is_some_text : (a : Option Attr) → is_some (text_of a) ≡ is_some a
-is_some_text None = refl
-is_some_text (Some t) = refl
 
 module _ {N : Type 0} (at : N → ℕ → Option Node) (s t : Seen N) (x : ℕ) (add : Add) (level : ℕ) (had has : Bool) (r : IsReplaced at s t x add level had has) (named : name_of (at s.nodes) x ≡ add.name)
     (ids : List ℕ) (are : AreIds (at s.nodes) ids) where
@@ -102,10 +97,10 @@ module _ {N : Type 0} (at : N → ℕ → Option Node) (s t : Seen N) (x : ℕ) 
   old_attr = attr_there s.dim r.attr (at s.nodes x) r.was
 
   had_is : one_if (is_some old_member.attr) ≡ one_if had
-  had_is = ap (λ o. one_if (is_some o)) old_attr ∙ ap one_if (is_some_text r.attr ∙ sym r.had_is)
+  had_is = ap (λ o. one_if (is_some o)) old_attr ∙ ap one_if (is_some_of_map (λ (a : Attr). a.text) r.attr ∙ sym r.had_is)
 
   has_is : one_if (is_some (added_member add level (text_of r.attr)).attr) ≡ one_if has
-  has_is = ap (λ o. one_if (is_some o)) (sym r.grown.text) ∙ ap one_if (is_some_text r.grown.attr ∙ sym r.grown.has_is)
+  has_is = ap (λ o. one_if (is_some o)) (sym r.grown.text) ∙ ap one_if (is_some_of_map (λ (a : Attr). a.text) r.grown.attr ∙ sym r.grown.has_is)
 
   pub counts : one_if had ≤ attribute_count (members_of (at s.nodes) s.dim (ids_of entries))
   counts = omega (arith, count_has add.name old_member (members_of (at s.nodes) s.dim (ids_of entries)) of_name, had_is)

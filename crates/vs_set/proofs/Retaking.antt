@@ -3,19 +3,17 @@
 --     same_names          the names are as they were
 --     are_drafted         they may be linked to
 --     down_same           the names of all layers are as they were
-use Rattle.std.proofs.Common.{◌≡◌, ◌≢◌, ℕ, ◌<◌, ◌≤◌, ◌+◌, ◌-◌, Bool, true, false, List, [], ◌∷◌, length, map, reverse, refl, sym, ap, ◌∙◌, subst, arith, get_or, is_some, inl, inr, ltb}
-use Rattle.std.specs.Prelude.{All, AllPairs, Some, None, IsSome, IsTrue, option_map, slice_get, unwrap_or}
+use Rattle.std.proofs.Common.{◌≡◌, ◌≢◌, ℕ, ◌<◌, ◌≤◌, ◌+◌, ◌-◌, true, false, List, [], ◌∷◌, length, map, reverse, refl, sym, ap, ◌∙◌, subst, arith, get_or, is_some, inl, inr, ltb}
+use Rattle.std.specs.Prelude.{All, AllPairs, Some, None, IsSome, IsTrue, unwrap_or}
 use Rattle.std.specs.declared.option.Option.{Option}
 use Rattle.std.proofs.lemmas.Bool.{both_ways, cases_Bool, ltb-true, ltb-false}
 use Rattle.std.proofs.lemmas.List.{length-map, get_or-map, ext_get_or, length-reverse, get_or-reverse}
 use Rattle.std.proofs.lemmas.Option.{slice_get_past, slice_get-get_or}
-use Rattle.vs_defs.specs.Bytes.{Bytes}
 use Rattle.vs_defs.specs.Links.{stands_at, reaches}
 use Rattle.vs_defs.specs.Store.{Member, member_of}
 use Rattle.vs_graph.specs.declared.node.Node.{Node}
-use Rattle.vs_graph.specs.declared.node.Body.{Body}
 use Rattle.vs_graph.specs.Good.{AreLinksGood}
-use Rattle.vs_graph.specs.Standing.{AreIds, member_at, members_of, name_of}
+use Rattle.vs_graph.specs.Standing.{member_at, members_of, name_of}
 use Rattle.vs_insert.specs.declared.draft.Chosen.{Chosen}
 use Rattle.vs_insert.specs.Added.{AreDrafted}
 use Rattle.vs_insert.specs.Chosen.{AreLayerNames, AreChosenNames}
@@ -25,7 +23,8 @@ use Rattle.vs_insert.proofs.Renamed.{renamed_choices}
 use Rattle.vs_order.specs.Entries.{Entries, ids_of, id_of}
 use Rattle.vs_set.specs.Kept.{set_by, AreNamed}
 use Rattle.vs_set.specs.Retaken.{with_id, retaken}
-use Rattle.vs_set.proofs.Members.{found, is_some_of_map, live_at, named_at}
+use Rattle.vs_laws.proofs.Options.{is_some_of_map}
+use Rattle.vs_set.proofs.Members.{found, live_at, named_at}
 
 pub all_done : {X : Type 0} (f : X → X) (d : X) (old now : List X) → length now ≡ length old → ((k : ℕ) (e : X) → k < length old → get_or now k e ≡ f (get_or old k e)) → now ≡ map f old
 all_done f d old now long each =

@@ -2,8 +2,7 @@
 --     with_id entries c          one of them
 --     retaken entries list       all of a layer
 --     retaken_draft entries draft      the draft with all of them
-use Rattle.std.specs.Prelude.{ℕ, List, map, unwrap_or}
-use Rattle.std.specs.declared.option.Option.{Option}
+use Rattle.std.specs.Prelude.{List, map, unwrap_or}
 use Rattle.vs_insert.specs.declared.draft.Chosen.{Chosen}
 use Rattle.vs_insert.specs.declared.draft.Draft.{Draft}
 use Rattle.vs_order.specs.Entries.{Entries, id_of}

@@ -1,7 +1,7 @@
 -- Lists of sets by their keys, each key once: what is found in them after a set was written at a place, put last, or taken out by its place,
 -- and that the keys still stand once.
-use Rattle.std.proofs.Common.{◌≡◌, ℕ, ◌+◌, ◌-◌, ◌<◌, Bool, true, false, cond, List, [], ◌∷◌, ◌++◌, length, map, get_or, refl, sym, ap, ◌∙◌, subst, arith, zero, suc, inl, inr}
-use Rattle.std.specs.Prelude.{◌≢◌, Option, Some, None, not, slice_get, slice_set, All, AllPairs}
+use Rattle.std.proofs.Common.{◌≡◌, ℕ, ◌<◌, Bool, true, false, cond, List, [], ◌∷◌, ◌++◌, length, map, get_or, refl, sym, ap, ◌∙◌, subst, arith, zero, suc, inl, inr}
+use Rattle.std.specs.Prelude.{◌≢◌, Option, Some, None, slice_get, slice_set, All}
 use Rattle.std.proofs.lemmas.Bool.{cases_Bool, both_ways, false_from_ne_true}
 use Rattle.std.proofs.lemmas.List.Elements.{All-set, All-map}
 use Rattle.std.proofs.lemmas.List.Kept.{AllPairs-cons}

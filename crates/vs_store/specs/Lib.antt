@@ -4,3 +4,6 @@ pub mod Places
 pub mod Causes
 pub mod Snapshots
 pub mod Drafts
+pub mod Gone
+pub mod Leaving
+pub mod Fresh

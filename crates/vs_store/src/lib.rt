@@ -4,10 +4,14 @@
 
 mod adding;
 mod attributes;
+#[cfg(test)]
+mod change_tests;
 mod committing;
 mod counting;
 mod drafting;
 mod error;
+#[cfg(test)]
+mod event_tests;
 mod keys;
 mod limits;
 mod looked;
@@ -17,6 +21,8 @@ mod ready;
 mod removing;
 mod room;
 mod store;
+#[cfg(test)]
+mod tests;
 
 pub use drafting::Drafting;
 pub use error::CommitError;

@@ -10,8 +10,7 @@ use Rattle.std.specs.declared.cmp.Ordering.{Ordering}
 use Rattle.std.specs.declared.cmp.Ordering.TheVariants.{Less, Equal, Greater}
 use Rattle.std.specs.declared.collections.binary_heap.BinaryHeap.{BinaryHeap}
 use Rattle.std.proofs.lemmas.Cmp.{nat_list_cmp_total, ranked}
-use Rattle.std.proofs.lemmas.Bool.Decides.{nat_tests}
-use Rattle.std.proofs.lemmas.Bool.{and_parts, both_ways, leb-true, lt-leb, ltb-true}
+use Rattle.std.proofs.lemmas.Bool.{and_parts, both_ways, le-leb, leb-true, lt-leb, ltb-true}
 use Rattle.std.proofs.lemmas.Map.Lookups.{exact_bytes}
 use Rattle.std.proofs.lemmas.List.{get_or-map, length-map}
 use Rattle.std.proofs.lemmas.List.Sorted.{IsPermutation-map, length_permutation}
@@ -121,13 +120,10 @@ beyond_kept h first x v is seen_as few beyond =
     let full : length first.nears ≡ first.most = omega (arith, few, leb-true _ _ parts.0) in
     offered_full h first x (option_map_or (λ (last : Near). is_gt (near_cmp last x)) (slice_get first.nears (length first.nears - 1)) false) false v is seen_as full refl (last_before (slice_get first.nears (length first.nears - 1)) x parts.1)
 
-le_is : (m n : ℕ) → m ≤ n → nat_le m n ≡ true
-le_is m n h = grind (arith, nat_tests)
-
 pub beyond_full : (h : BinaryHeap Candidate Global) (dist : ℕ) (last : Near) (most : ℕ) → most ≤ heap_len h → slice_get (kept h) (length (kept h) - 1) ≡ Some last
     → is_beyond (record { most = most; nears = kept h }) dist ≡ nat_lt last.dist dist
 beyond_full h dist last most full worst =
-    let all : nat_le most (length (kept h)) ≡ true = le_is most (length (kept h)) (omega (arith, full, kept_long h)) in
+    let all : nat_le most (length (kept h)) ≡ true = le-leb most (length (kept h)) (omega (arith, full, kept_long h)) in
     λ t. all t && option_map_or (λ (x : Near). nat_lt x.dist dist) (worst t) false
 
 pub beyond_room : (h : BinaryHeap Candidate Global) (dist most : ℕ) → heap_len h < most → is_beyond (record { most = most; nears = kept h }) dist ≡ false

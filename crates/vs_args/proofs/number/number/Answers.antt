@@ -1,6 +1,7 @@
 use Rattle.std.proofs.Common.{rules, ◌≡◌, ◌≤◌, ◌<◌, ◌^◌, ◌*◌, ◌+◌, ◌∙◌, None, Some, take, arith, ap}
 use Rattle.vs_defs.specs.Decimal.{number_of}
-use Rattle.vs_args.proofs.Digits.{digit_at, exceeds, too_large, fits}
+use Rattle.vs_decimal.proofs.DigitLists.{digit_at}
+use Rattle.vs_args.proofs.Digits.{exceeds, too_large, fits}
 use Rattle.std.proofs.lemmas.List.{take_all}
 use Rattle.vs_args.proofs.number.number.Goals as goal
 

@@ -1,5 +1,6 @@
 use Rattle.std.proofs.Common.{◌≡◌, true, Some, None, ap, sym, ◌∙◌}
 use Rattle.std.specs.Str.{is_utf8}
+use Rattle.vs_defs.specs.Limits.{max_json_depth}
 use Rattle.vs_defs.specs.Numeral.{is_empty}
 use Rattle.vs_defs.specs.Json.{mark_at}
 use Rattle.vs_attr.proofs.FirstByte.{object_none, object_end, object_cut}
@@ -16,7 +17,7 @@ pub returns-in-Some-value_end : goal.returns-in-Some-value_end
 returns-in-Some-value_end c =
     let u : is_utf8 c.args.text.now ≡ true = cc in
     let m : mark_at 123 c.args.text.now ≡ Some c.in-Some.field-0.now = sym c.in-Some.ensures.value in
-    let r : rest_of (value_at 64 c.args.text.now) ≡ Some c.in-Some-value_end.rest.now = sym c.in-Some-value_end.ensures in
+    let r : rest_of (value_at max_json_depth c.args.text.now) ≡ Some c.in-Some-value_end.rest.now = sym c.in-Some-value_end.ensures in
     c.is_empty.ensures ∙ ap is_empty c.skip_space.ensures.value
     ∙ object_end c.args.text.now c.in-Some.field-0.now c.in-Some-value_end.rest.now u m r
 

@@ -15,7 +15,7 @@ digits-preserved c =
     record {
       spells = λ k sum ws few.
           subst (λ (ds : Bytes). Leads (len k sum ws 0 0) ds (len k sum ws (size + 1) (value * 10 + (byte - 48)))) (sym (take_more p size 0 (omega (arith, c.digits-test.true, c.min-most.ensures))))
-          (leads_digit k sum ws size value byte (take size p) (sym c.is_ascii_digit.ensures.value ∙ c.if-is_ascii_digit.true) (omega (arith, c.digits-test.true, c.min-most.ensures)) c.if-value-gt65536.false few (c.digits.invariant.spells k sum ws (omega (arith, few))));
-      value = c.if-value-gt65536.false;
+          (leads_digit k sum ws size value byte (take size p) (sym c.is_ascii_digit.ensures.value ∙ c.if-is_ascii_digit.true) (omega (arith, c.digits-test.true, c.min-most.ensures)) c.if-value-gt-MAX_WORD_BYTES.false few (c.digits.invariant.spells k sum ws (omega (arith, few))));
+      value = c.if-value-gt-MAX_WORD_BYTES.false;
       within = omega (arith, c.digits-test.true);
     }

@@ -1,6 +1,5 @@
-use Rattle.std.proofs.Common.{◌≡◌, ◌+◌, sym, ap, ◌∙◌, arith}
-use Rattle.std.specs.Prelude.{IsSome, option_map}
-use Rattle.vs_graph.specs.Standing.{members_of, name_of, wiring_of}
+use Rattle.std.proofs.Common.{ap, ◌∙◌, arith}
+use Rattle.vs_graph.specs.Standing.{members_of, name_of}
 use Rattle.vs_defs.specs.PlainStep.{with_attr}
 use Rattle.vs_set.specs.Kept.{one_if}
 use Rattle.vs_set.proofs.Given.{names_given, counted_given}

@@ -1,4 +1,4 @@
-use Rattle.std.proofs.Common.{◌<◌, [], length, arith}
+use Rattle.std.proofs.Common.{[], arith}
 use Rattle.vs_set.specs.Retaken.{retaken}
 use Rattle.vs_set.proofs.Retaking.{all_done}
 use Rattle.vs_set.proofs.committing.take_all_ids.Goals as goal

@@ -1,4 +1,4 @@
-use Rattle.std.proofs.Common.{◌<◌, length, arith}
+use Rattle.std.proofs.Common.{arith}
 use Rattle.vs_set.specs.Retaken.{with_id}
 use Rattle.vs_set.proofs.Retaking.{all_done, no_chosen}
 use Rattle.vs_set.proofs.committing.take_ids.Goals as goal

@@ -1,5 +1,4 @@
-use Rattle.std.proofs.Common.{◌∷◌, [], ◌++◌, sym, ap, ◌∙◌, subst, false}
-use Rattle.vs_order.specs.Entries.{is_taken}
+use Rattle.std.proofs.Common.{◌∷◌, [], ◌++◌, ap, ◌∙◌}
 use Rattle.vs_set.proofs.placing.place_for.Goals as goal
 
 pub returns-clause-placed : goal.returns-clause-placed

@@ -1,4 +1,4 @@
-use Rattle.std.proofs.Common.{◌≡◌, ◌<◌, ◌-◌, ◌^◌, ◌++◌, ◌∷◌, [], length, None, min, subst, sym, ap, ◌∙◌, arith, ℕ, take}
+use Rattle.std.proofs.Common.{◌≡◌, ◌<◌, ◌-◌, ◌++◌, ◌∷◌, [], length, None, min, subst, sym, ap, ◌∙◌, arith, ℕ, take}
 use Rattle.std.specs.Prelude.{nat_eq}
 use Rattle.std.specs.Vec.{vec_capacity}
 use Rattle.std.specs.Cmp.Lexicographic.{pointwise}
@@ -6,6 +6,7 @@ use Rattle.std.proofs.lemmas.List.{map_push, length-map}
 use Rattle.indexmap.specs.IndexMap.{spare}
 use Rattle.indexmap.proofs.CallerLemmas.{insert_entry-new}
 use Rattle.vs_defs.specs.Bytes.{Bytes}
+use Rattle.vs_defs.specs.Limits.{max_members}
 use Rattle.vs_order.specs.Entries.{ids_of, id_of}
 use Rattle.vs_order.specs.Ids.{AreSplit, next_id}
 use Rattle.vs_order.proofs.FreeIds.{pushed, after_least}
@@ -18,7 +19,7 @@ invariant_of-self c =
     let es = s.map.entries in
     let none : id_of c.args.name es ≡ None = ap (λ x. id_of c.args.name x.entries) c.self.view_is ∙ c.requires.new in
     let grown : c.insert.new.self.entries ≡ es ++ (c.args.name, t.result) ∷ [] = c.in-Ok.ensures.entries ∙ insert_entry-new (pointwise nat_eq) s.map c.args.name t.result none in
-    let few : length (ids_of es) < 2 ^ 20 = omega (arith, c.requires.few, ap (λ x. length x.entries) c.self.view_is, length-map es (λ (e : Bytes × ℕ). e.1)) in
+    let few : length (ids_of es) < max_members = omega (arith, c.requires.few, ap (λ x. length x.entries) c.self.view_is, length-map es (λ (e : Bytes × ℕ). e.1)) in
     let room : 0 < min (spare s.map) (vec_capacity s.free - s.next) = subst (λ n. 0 < n) (ap (λ x. x.room) (sym c.self.view_is)) c.requires.room in (
       subst (λ l. AreSplit (ids_of l) t.new.free.items t.new.next) (sym grown)
           (subst (λ l. AreSplit l t.new.free.items t.new.next) (sym (map_push (λ (e : Bytes × ℕ). e.1) es (c.args.name, t.result)))

@@ -1,4 +1,4 @@
-use Rattle.std.proofs.Common.{sym, ap, ◌∙◌, not}
+use Rattle.std.proofs.Common.{sym, ap, ◌∙◌}
 use Rattle.vs_defs.specs.Store.{is_member}
 use Rattle.vs_set.proofs.set.Set.add.Goals as goal
 

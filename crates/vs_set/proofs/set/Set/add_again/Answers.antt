@@ -1,11 +1,11 @@
-use Rattle.std.proofs.Common.{◌≡◌, ◌≤◌, ◌+◌, ◌^◌, false, true, length, None, Some, sym, ap, ◌∙◌, subst, arith, is_some}
+use Rattle.std.proofs.Common.{◌≡◌, None, Some, sym, ap, ◌∙◌, subst, arith, is_some}
 use Rattle.std.proofs.lemmas.Bool.{both_ways}
 use Rattle.std.proofs.lemmas.List.Sums.{count_by-le-length}
 use Rattle.vs_defs.specs.Store.{Member, is_member}
-use Rattle.vs_graph.specs.Standing.{members_of, name_of}
+use Rattle.vs_graph.specs.Standing.{members_of}
 use Rattle.vs_bits.specs.Requests.{add_of}
 use Rattle.vs_order.specs.Entries.{ids_of, id_of}
-use Rattle.vs_set.specs.Kept.{set_by, one_if}
+use Rattle.vs_set.specs.Kept.{set_by}
 use Rattle.vs_set.specs.Changed.{AddsMember}
 use Rattle.vs_set.proofs.Members.{counted, has_is, live_at, named_at}
 use Rattle.vs_set.proofs.Replacement.{replaced, kept_replaced, counts}

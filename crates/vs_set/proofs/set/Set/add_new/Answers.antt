@@ -1,12 +1,13 @@
-use Rattle.std.proofs.Common.{◌≡◌, ◌<◌, ◌≤◌, ◌^◌, ◌+◌, ◌++◌, ◌∷◌, [], false, length, None, sym, ap, ◌∙◌, subst, arith, is_some}
+use Rattle.std.proofs.Common.{◌≡◌, ◌+◌, ◌++◌, ◌∷◌, [], length, None, sym, ap, ◌∙◌, subst, arith, is_some}
 use Rattle.std.proofs.lemmas.List.Sums.{count_by-le-length}
 use Rattle.vs_defs.specs.Store.{Member, is_member}
 use Rattle.vs_graph.specs.Standing.{members_of}
 use Rattle.vs_bits.specs.Requests.{add_of}
 use Rattle.vs_order.specs.Entries.{ids_of, id_of}
-use Rattle.vs_set.specs.Kept.{set_by, IsKept, one_if}
+use Rattle.vs_set.specs.Kept.{set_by, IsKept}
 use Rattle.vs_set.specs.Changed.{AddsMember}
-use Rattle.vs_set.proofs.Members.{counted, has_is, none_is, fresh_name}
+use Rattle.vs_laws.proofs.Options.{none_is}
+use Rattle.vs_set.proofs.Members.{counted, has_is, fresh_name}
 use Rattle.vs_set.proofs.Added.{added}
 use Rattle.vs_set.proofs.Keeping.{kept_grown}
 use Rattle.vs_set.proofs.Sames.{kept_same, set_same, on_err}

@@ -1,4 +1,4 @@
-use Rattle.std.proofs.Common.{◌≡◌, ◌≢◌, ◌+◌, ◌++◌, ◌∷◌, [], None, Some, sym, ap, ◌∙◌, subst, arith}
+use Rattle.std.proofs.Common.{◌≡◌, ◌≢◌, ◌+◌, ◌++◌, ◌∷◌, [], sym, ap, ◌∙◌, subst, arith}
 use Rattle.std.specs.Prelude.{IfSome}
 use Rattle.vs_defs.specs.Store.{is_member}
 use Rattle.vs_insert.specs.Added.{IsAdded, AreDrafted, entry_after}
@@ -8,7 +8,8 @@ use Rattle.vs_order.specs.Entries.{ids_of, id_of}
 use Rattle.vs_set.specs.Kept.{set_by, one_if}
 use Rattle.vs_set.specs.Drafted.{Commits}
 use Rattle.vs_set.specs.Retaken.{retaken_draft}
-use Rattle.vs_set.proofs.Members.{none_is, has_is, fresh_name}
+use Rattle.vs_laws.proofs.Options.{none_is}
+use Rattle.vs_set.proofs.Members.{has_is, fresh_name}
 use Rattle.vs_set.proofs.Retaking.{are_drafted}
 use Rattle.vs_set.proofs.Drafts.{kept_committed, commits}
 use Rattle.vs_set.proofs.set.Set.commit_fresh.Goals as goal

@@ -1,4 +1,4 @@
-use Rattle.std.proofs.Common.{◌≡◌, ap, ◌∙◌}
+use Rattle.std.proofs.Common.{ap}
 use Rattle.vs_defs.specs.Store.{Set, Store}
 use Rattle.vs_store.proofs.Sets.{a_place_or_none, no_set}
 use Rattle.vs_store.proofs.store.Store.place_of.Goals as goal
