@@ -223,9 +223,7 @@ fn replaced_member(rt: HostRuntime) -> Result<(), Fail> {
         ("VADD k VALUES 2 -1 1 a", "0"),
     ];
     check_on(&rt, alloc, &mut store, &cases)?;
-    let Some(set) = store.set_at(b"k") else {
-        unreachable!(&rt; "the key was added");
-    };
+    let set = store.set_at(b"k").expect(&rt, "the key was added");
     assert_eq!(&rt; set.count(), 3);
     assert_eq!(&rt; set.place_of(b"a"), Some(0));
     assert_eq!(&rt; set.place_of(b"c"), Some(2));
