@@ -1,12 +1,11 @@
 -- From hits by their places to what a search answers.
---     match_true, match_false      a choice whose test is known
 --     has_sought                   a name that isn't refused is a member
 --     are_hits                     the hits are found members
 --     answers_vector               with names, they are what a search for the vector answers
 --     finds_of, reads_to_find      at the vector that is looked for, that is what the search answers, and by how many reads
 use Rattle.std.proofs.Common.{◌≡◌, ℕ, ◌+◌, ◌≤◌, Bool, true, false, List, Option, Some, None, map, take, max, refl, sym, ◌∙◌, arith, subst, inl, inr}
 use Rattle.std.specs.Prelude.{MatchBool}
-use Rattle.std.proofs.lemmas.Bool.{cond-false, cases_Bool, both_ways, MatchBool-at_false}
+use Rattle.std.proofs.lemmas.Bool.{cond-false, cases_Bool, MatchBool-at_false}
 use Rattle.std.proofs.lemmas.Option.{none-some}
 use Rattle.vs_defs.specs.Bytes.{Bytes}
 use Rattle.vs_defs.specs.Vector.{Vector}
@@ -30,14 +29,6 @@ use Rattle.vs_query.specs.Found.{hit_at, HasHits, FindsVector, truth_answer}
 use Rattle.vs_query.proofs.Named.{named_is}
 
 -- ---- choices
-
-pub match_true : {A : Type 0} (B : Type 0) (b : Bool) → b ≡ true → A → MatchBool b A B
-match_true B true e a = a
-match_true B false e a = absurd (both_ways false refl e)
-
-pub match_false : {B : Type 0} (A : Type 0) (b : Bool) → b ≡ false → B → MatchBool b A B
-match_false A true e a = absurd (both_ways true e refl)
-match_false A false e a = a
 
 either : {A B C : Type 0} (b : Bool) → (A → C) → (B → C) → MatchBool b A B → C
 either true f g h = f h

@@ -1,5 +1,5 @@
 //! A hub of ten members, each query of it against an answer that was worked out by hand.
-ghost use Rattle.std.specs.Prelude.{◌≡◌, IsTrue, [], None, Some, IfOk, IfSome};
+ghost use Rattle.std.specs.Prelude.{◌≡◌, ◌<◌, IsTrue, [], None, Some, IfOk, IfSome};
 ghost use Rattle.vs_defs.specs.Bounds.{IsSearchInBounds};
 ghost use Rattle.vs_defs.specs.Read.{draws as draws_of};
 ghost use Rattle.vs_defs.specs.Refuse.{search_refusal};
@@ -95,7 +95,6 @@ fn are_short(words: &[Text]) -> bool
     words.len() < 4294967296 && words.iter().all(|word| word.len() < 4294967296)
 }
 
-/// The search of a line with TRUTH.
 fn search_of(rt: &impl Abort, alloc: Global, line: &str) -> Result<Search, AllocError>
     ensures { IfOk result (λ search. IsSearchInBounds (search_of search)) }
 {
@@ -105,14 +104,6 @@ fn search_of(rt: &impl Abort, alloc: Global, line: &str) -> Result<Search, Alloc
         Ok(Request::Vsim(search)) => Ok(search),
         _ => panic!(rt; "no search: {line}"),
     }
-}
-
-/// The same search, with TRUTH or without.
-fn with_truth(search: Search, truth: bool) -> Search
-    requires { IsSearchInBounds (search_of search) }
-    ensures { IsSearchInBounds (search_of result) }
-{
-    Search { truth, ..search }
 }
 
 /// The place of the member that is looked for, where the set doesn't refuse the search.
@@ -127,49 +118,75 @@ fn sought(set: &Set<Kept>, what: &What) -> Option<Option<u32>>
     }
 }
 
-fn found<A: Abort, L: Ledger>(
-    rt: &A,
+fn found<L: Ledger>(
     alloc: Global,
     set: &Set<Kept>,
-    line: &str,
-    truth: bool,
+    search: &Search,
     blank: Blank,
-) -> Result<Answer, AllocError>
+) -> Result<Option<Answer>, AllocError>
+    requires bounds { IsSearchInBounds (search_of search.now) }
     requires name { blank.name ≡ L.name }
     requires parts { blank.parts ≡ L.parts }
     requires some { 0 < L.parts }
 {
-    let search = with_truth(search_of(rt, alloc, line)?, truth);
     let Some(place) = sought(set, &search.what) else {
-        panic!(rt; "refused: {line}");
+        return Ok(None);
     };
-    assert!(rt; set.count() > 0, "no members");
+    if set.count() == 0 {
+        return Ok(None);
+    }
     let snap = set.snapshot()?;
     let mut slot = Slot::new(alloc);
     let mut reads = Steps::<L>::new(blank);
-    find(alloc, &snap, &search, place, &mut slot, &mut reads)
+    let answer = find(alloc, &snap, search, place, &mut slot, &mut reads)?;
+    Ok(Some(answer))
 }
 
-fn check_search<A: Abort>(
-    rt: &A,
+fn check_answer(
+    rt: &impl Abort,
+    alloc: Global,
+    answer: Result<Answer, AllocError>,
+    want: &str,
+) -> Result<(), AllocError> {
+    let answer = answer?;
+    let shown = show(alloc, &answer)?;
+    assert_eq!(rt; shown.as_str(), want);
+    Ok(())
+}
+
+fn check_search(
+    rt: &impl Abort,
     alloc: Global,
     set: &Set<Kept>,
     line: &str,
-    truth: bool,
     want: &str,
 ) -> Result<(), AllocError> {
-    let answer = found::<A, Brand>(rt, alloc, set, line, truth, Blank::new(1))?;
-    let shown = show(alloc, &answer)?;
-    assert_eq!(rt; shown.as_str(), want, "{line}, exact: {truth}");
-    Ok(())
+    let search = search_of(rt, alloc, line)?;
+    match found::<Brand>(alloc, set, &search, Blank::new(1))? {
+        Some(answer) => check_answer(rt, alloc, Ok(answer), want),
+        None => panic!(rt; "refused: {line}"),
+    }
+}
+
+/// The same search by a beam and with TRUTH.
+fn check_both(
+    rt: &impl Abort,
+    alloc: Global,
+    set: &Set<Kept>,
+    words: &str,
+    want: &str,
+) -> Result<(), AllocError> {
+    let line = format!(in alloc; "VSIM k {words}")?;
+    check_search(rt, alloc, set, line.as_str(), want)?;
+    let line = format!(in alloc; "VSIM k {words} TRUTH")?;
+    check_search(rt, alloc, set, line.as_str(), want)
 }
 
 // The beam of a search without TRUTH is wide enough for all members.
 #[test]
 fn searches_by_distance_then_name(rt: HostRuntime) -> Result<(), Fail> {
-    let alloc = rt.alloc();
-    let set = ten_members(alloc)?;
-    let cases = [
+    let set = ten_members(rt.alloc())?;
+    for (words, want) in [
         (
             "VALUES 9 1 1 -1 -1 -1 -1 -1 -1 -1 COUNT 3",
             "a 1, b 1, hub 2",
@@ -188,11 +205,8 @@ fn searches_by_distance_then_name(rt: HostRuntime) -> Result<(), Fail> {
         ("ELE a COUNT 2 FILTER .year>=1980", "a 0, b 2"),
         ("ELE d FILTER .year>1984 WITHATTRIBS", "c 2 {\"year\":1990}"),
         ("ELE d FILTER .year<1984", ""),
-    ];
-    for (words, want) in cases {
-        let line = format!(in alloc; "VSIM k {words} TRUTH")?;
-        check_search(&rt, alloc, &set, line.as_str(), true, want)?;
-        check_search(&rt, alloc, &set, line.as_str(), false, want)?;
+    ] {
+        check_both(&rt, rt.alloc(), &set, words, want)?;
     }
     Ok(())
 }
@@ -200,49 +214,71 @@ fn searches_by_distance_then_name(rt: HostRuntime) -> Result<(), Fail> {
 // For a and b at once the descent ends at b, so that with one try nothing else is found.
 #[test]
 fn searches_of_one_try(rt: HostRuntime) -> Result<(), Fail> {
-    let alloc = rt.alloc();
-    let set = ten_members(alloc)?;
-    let query = "VSIM k VALUES 9 1 1 -1 -1 -1 -1 -1 -1 -1 TRUTH FILTER";
-    for (words, want) in [
-        (".year==1984 FILTER-EF 1", "b 1"),
-        (".year==1984 FILTER-EF 0", "a 1, b 1"),
-        (".year==1990 FILTER-EF 1", ""),
+    let set = ten_members(rt.alloc())?;
+    for (line, want) in [
+        (
+            "VSIM k VALUES 9 1 1 -1 -1 -1 -1 -1 -1 -1 FILTER .year==1984 FILTER-EF 1",
+            "b 1",
+        ),
+        (
+            "VSIM k VALUES 9 1 1 -1 -1 -1 -1 -1 -1 -1 FILTER .year==1984 FILTER-EF 0",
+            "a 1, b 1",
+        ),
+        (
+            "VSIM k VALUES 9 1 1 -1 -1 -1 -1 -1 -1 -1 FILTER .year==1990 FILTER-EF 1",
+            "",
+        ),
     ] {
-        let line = format!(in alloc; "{query} {words}")?;
-        check_search(&rt, alloc, &set, line.as_str(), false, want)?;
+        check_search(&rt, rt.alloc(), &set, line, want)?;
+    }
+    Ok(())
+}
+
+/// A name, its vector, its attribute, and its links on each layer.
+type Facts = (&'static str, &'static str, &'static str, &'static str);
+
+const FACTS: [Facts; 6] = [
+    (
+        "hub",
+        "---------",
+        "null text",
+        "b 1 / a 1, b 1 / a 1, b 1, c 1, d 1, e 1, f 1, g 1, h 1, i 1",
+    ),
+    ("a", "+--------", "{\"year\":1984}", "hub 1 / hub 1"),
+    ("b", "-+-------", "{\"year\":1984}", "hub 1 / hub 1 / hub 1"),
+    ("i", "--------+", "null text", "hub 1"),
+    ("j", "null list", "null text", "null list"),
+    ("", "null list", "null text", "null list"),
+];
+
+fn check_facts(
+    rt: &impl Abort,
+    alloc: Global,
+    set: &Set<Kept>,
+    facts: &Facts,
+) -> Result<(), AllocError> {
+    let (name, signs, attr, layers) = facts;
+    let name = name.as_bytes();
+    check_answer(rt, alloc, embedding(alloc, set, name), signs)?;
+    check_answer(rt, alloc, attribute(alloc, set, name), attr)?;
+    check_answer(rt, alloc, links(alloc, set, name, true), layers)
+}
+
+#[test]
+fn facts_of_members(rt: HostRuntime) -> Result<(), Fail> {
+    let set = ten_members(rt.alloc())?;
+    for facts in FACTS {
+        check_facts(&rt, rt.alloc(), &set, &facts)?;
     }
     Ok(())
 }
 
 #[test]
-fn facts_of_members(rt: HostRuntime) -> Result<(), Fail> {
-    let alloc = rt.alloc();
-    let set = ten_members(alloc)?;
-    let shown = show(alloc, &info(&set)?)?;
+fn facts_of_the_set(rt: HostRuntime) -> Result<(), Fail> {
+    let set = ten_members(rt.alloc())?;
+    assert!(rt; set.count() > 0);
     let want = "M 16 dim 9 size 10 level 2 attributes 3";
-    assert_eq!(rt; shown.as_str(), want, "of the set");
-    let cases = [
-        (
-            "hub",
-            "---------",
-            "null text",
-            "b 1 / a 1, b 1 / a 1, b 1, c 1, d 1, e 1, f 1, g 1, h 1, i 1",
-        ),
-        ("a", "+--------", "{\"year\":1984}", "hub 1 / hub 1"),
-        ("b", "-+-------", "{\"year\":1984}", "hub 1 / hub 1 / hub 1"),
-        ("i", "--------+", "null text", "hub 1"),
-        ("j", "null list", "null text", "null list"),
-        ("", "null list", "null text", "null list"),
-    ];
-    for (name, signs, attr, layers) in cases {
-        let name = name.as_bytes();
-        let shown = show(alloc, &embedding(alloc, &set, name)?)?;
-        assert_eq!(rt; shown.as_str(), signs, "the vector of {name:?}");
-        let shown = show(alloc, &attribute(alloc, &set, name)?)?;
-        assert_eq!(rt; shown.as_str(), attr, "the attribute of {name:?}");
-        let shown = show(alloc, &links(alloc, &set, name, true)?)?;
-        assert_eq!(rt; shown.as_str(), layers, "the links of {name:?}");
-    }
+    check_answer(&rt, rt.alloc(), info(&set), want)?;
     Ok(())
 }
 
@@ -257,9 +293,8 @@ fn words_for(count: Option<i32>) -> usize
 
 #[test]
 fn picks_by_words(rt: HostRuntime) -> Result<(), Fail> {
-    let alloc = rt.alloc();
-    let set = ten_members(alloc)?;
-    assert!(rt; set.count() > 0, "no members");
+    let set = ten_members(rt.alloc())?;
+    assert!(rt; set.count() > 0);
     let cases: [(Option<i32>, &[u32], &str); 5] = [
         (Some(2), &[0, 0], "hub a"),
         (Some(3), &[4294967295, 0, 0], "i a b"),
@@ -269,8 +304,8 @@ fn picks_by_words(rt: HostRuntime) -> Result<(), Fail> {
     ];
     for (count, words, want) in cases {
         assert_eq!(rt; words.len(), words_for(count));
-        let shown = show(alloc, &random(alloc, &set, count, words)?)?;
-        assert_eq!(rt; shown.as_str(), want, "by {words:?}");
+        let picked = random(rt.alloc(), &set, count, words);
+        check_answer(&rt, rt.alloc(), picked, want)?;
     }
     Ok(())
 }

@@ -22,8 +22,11 @@ pub returns-clause-found : goal.returns-clause-found
 returns-clause-found g c =
     let search = c.args.search.now in
     let snap = c.args.snap.now in
-    let named : hits_of c.in_ok-hits.hits ≡ map (hit_at search.attrs snap.contents.members) c.in_ok-found.found = c.in_ok-hits.ensures ∙ ap (map (hit_at search.attrs snap.contents.members)) c.as_slice.ensures in
-    answers_vector (search_of search) snap c.args.query.now c.in_ok-found.found c.in_ok-hits.hits c.dim-dim.result (c.hits_of.new.reads - c.args.reads.now) c.dim-dim.ensures.value named c.in_ok-found.ensures
+    let found = c.in_ok-found.found in
+    let same : map (hit_at search.attrs snap.contents.members) c.as_slice.result.now ≡ map (hit_at search.attrs snap.contents.members) found
+    = ap (map (hit_at search.attrs snap.contents.members)) c.as_slice.ensures in
+    let named : hits_of c.in_ok-hits.hits ≡ map (hit_at search.attrs snap.contents.members) found = c.in_ok-hits.ensures ∙ same in
+    answers_vector (search_of search) snap c.args.query.now found c.in_ok-hits.hits c.dim-dim.result (c.hits_of.new.reads - c.args.reads.now) c.dim-dim.ensures.value named c.in_ok-found.ensures
 
 pub returns-clause-scores : goal.returns-clause-scores
 returns-clause-scores g c =
@@ -34,8 +37,8 @@ returns-clause-scores g c =
     let hits = c.in_ok-found.found in
     let is : c.dim-dim.result ≡ snap.contents.dim = c.dim-dim.ensures.value in
     let are = are_hits (search_of search) search.filter snap q hits (c.hits_of.new.reads - c.args.reads.now) c.in_ok-found.ensures in
-    let named : hits_of c.in_ok-hits.hits ≡ map (truth.hit_of q search.attrs) are.0
-    = c.in_ok-hits.ensures ∙ ap (map (hit_at search.attrs members)) c.as_slice.ensures ∙ named_is search.attrs q members are.0 hits are.1 in (
+    let same : map (hit_at search.attrs members) c.as_slice.result.now ≡ map (hit_at search.attrs members) hits = ap (map (hit_at search.attrs members)) c.as_slice.ensures in
+    let named : hits_of c.in_ok-hits.hits ≡ map (truth.hit_of q search.attrs) are.0 = c.in_ok-hits.ensures ∙ same ∙ named_is search.attrs q members are.0 hits are.1 in (
       (omega (arith, is, c.dim-dim.ensures.sound.dim_low), omega (arith, is, c.dim-dim.ensures.sound.dim_high)),
       all_few search.attrs q c.dim-dim.result are.0 c.in_ok-hits.hits (c.requires.dim ∙ sym is) named,
     )
