@@ -1,4 +1,3 @@
-pub mod Lasting
 pub mod Edits
 pub mod Sets
 pub mod Causes
@@ -18,3 +17,4 @@ pub mod Additions
 pub mod Counted
 pub mod Entered
 pub mod Taken
+pub mod Lasting
