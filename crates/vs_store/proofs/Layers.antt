@@ -19,7 +19,7 @@ use Rattle.vs_store.specs.Drafts.{chosen_seen, AreThere}
 
 -- ---- names
 
-abbrev names_at : List (Bytes × Vector) → List Bytes
+abbrev pub names_at : List (Bytes × Vector) → List Bytes
 names_at list = map (λ c. c.0) list
 
 names_one : (dim : ℕ) (list : List Chosen) → names_at (map (chosen_seen dim) list) ≡ names_of list
@@ -81,10 +81,10 @@ module _ (chosen : List (List (Bytes × Vector))) where
   abbrev pub at_layer : ℕ → List (Bytes × Vector)
   at_layer layer = unwrap_or (slice_get chosen layer) []
 
-  down_length : length (core.names_down chosen) ≡ length chosen
+  pub down_length : length (core.names_down chosen) ≡ length chosen
   down_length = length-reverse (map names_at chosen) ∙ length-map chosen names_at
 
-  down_at : (i : ℕ) (d : List Bytes) → i < length chosen → get_or (core.names_down chosen) i d ≡ names_at (at_layer (length chosen - 1 - i))
+  pub down_at : (i : ℕ) (d : List Bytes) → i < length chosen → get_or (core.names_down chosen) i d ≡ names_at (at_layer (length chosen - 1 - i))
   down_at i d less =
       let n = length-map chosen names_at in
       get_or-reverse (map names_at chosen) i d (omega (arith, less, n))
