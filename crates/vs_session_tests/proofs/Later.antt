@@ -1,5 +1,5 @@
 -- A call at a history that others have lengthened is one at what the author knew of it.
-use Rattle.std.proofs.Common.{◌≡◌, ◌⊎◌, inl, inr, ℕ, List, [], ◌∷◌, ◌++◌, length, refl, sym, ap, subst, ◌∙◌, append-nil, arith, codes}
+use Rattle.std.proofs.Common.{◌≡◌, ◌⊎◌, inl, inr, ℕ, List, [], ◌∷◌, ◌++◌, length, refl, sym, ap, subst, ◌∙◌, arith, codes}
 use Rattle.vs_defs.specs.Bounds.{IsInBounds}
 use Rattle.vs_defs.specs.Read.{draws}
 use Rattle.vs_defs.specs.Request.{Request}

@@ -1,9 +1,9 @@
-use Rattle.std.proofs.Common.{sym, subst, [], ap, true, refl, ◌∙◌}
+use Rattle.std.proofs.Common.{sym, subst, [], ap}
 use Rattle.vs_defs.specs.Bounds.{IsInBounds}
 use Rattle.vs_defs.specs.Read.{draws}
 use Rattle.vs_command.specs.Outcomes.{outcome_of}
 use Rattle.vs_command.specs.Requests.{request_of}
-use Rattle.vs_session_tests.proofs.Later.{other_changes, none_changes, removal_bounds}
+use Rattle.vs_session_tests.proofs.Later.{other_changes, removal_bounds}
 use Rattle.vs_session_tests.proofs.shared.let_other_remove.Goals as goal
 
 pub returns-in-Ok : goal.returns-in-Ok
