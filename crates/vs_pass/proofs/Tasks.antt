@@ -23,11 +23,15 @@ use Rattle.vs_history.proofs.Histories.{store_push, legal_begin}
 use Rattle.vs_history.proofs.Calls.{did_at_once, of_its_change, legal_counts}
 use Rattle.vs_pass.specs.Task.{Holding, Works, at_once, watching, is_stale, drafted_by, committing}
 
+-- what follows from what its caller knows, the caller knows
+pub knowing : (limits : Limits) (n : ℕ) (log : GraphHistory) (old new : Store Set) (w : Work) (P Q : GraphHistory → Type 0) → ((t : GraphHistory) → P t → Q t) → Works limits n log old new w P → Works limits n log old new w Q
+knowing limits n log old new w P Q more works = record { old_is = works.old_is; new_is = works.new_is; did = works.did; closes = λ t mine closed. more t (works.closes t mine closed) }
+
 module _ (limits : Limits) where
-  at_the_end : (t : GraphHistory) → store_at limits t (length t) ≡ store_of limits t
+  pub at_the_end : (t : GraphHistory) → store_at limits t (length t) ≡ store_of limits t
   at_the_end t = ap (store_of limits) (take_all (length t) t (omega arith))
 
-  at_a_beginning : (s log : GraphHistory) → IsPrefix s log → store_at limits log (length s) ≡ store_of limits s
+  pub at_a_beginning : (s log : GraphHistory) → IsPrefix s log → store_at limits log (length s) ≡ store_of limits s
   at_a_beginning s log p = ap (λ (h : GraphHistory). store_of limits (take (length s) h)) (sym p.1) ∙ ap (store_of limits) (take_at s p.0 (length s) refl)
 
   -- a change moves the count

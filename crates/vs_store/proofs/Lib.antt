@@ -1,0 +1,15 @@
+pub mod Edits
+pub mod Sets
+pub mod Causes
+pub mod Changes
+pub mod Answered
+pub mod Gone
+pub mod Attributed
+pub mod Removed
+pub mod Deleted
+pub mod Refusing
+pub mod Layers
+pub mod Prepared
+pub mod Committed
+pub mod Additions
+pub mod Counted

@@ -15,7 +15,12 @@ mod looking;
 mod querying;
 mod ready;
 mod removing;
+mod room;
 mod store;
+#[cfg(test)]
+mod event_tests;
+#[cfg(test)]
+mod tests;
 
 pub use drafting::Drafting;
 pub use error::CommitError;

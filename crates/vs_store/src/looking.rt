@@ -3,21 +3,43 @@ ghost use Rattle.std.specs.Prelude.{◌≡◌, ◌-◌, false, None, Some, IfOk,
 ghost use Rattle.vs_defs.specs.Answers.{FindsOf};
 ghost use Rattle.vs_defs.specs.Bounds.{IsSearchInBounds};
 ghost use Rattle.vs_defs.specs.Counts.{ReadsToFind};
-ghost use Rattle.vs_defs.specs.Refuse.{store_refusal};
+ghost use Rattle.vs_defs.specs.Refuse.{search_refusal, store_refusal};
 ghost use Rattle.vs_defs.specs.Request as request;
 ghost use Rattle.vs_defs.specs.Store.{set_of, plain};
 ghost use Rattle.vs_command.specs.Answers.{answer_of};
 ghost use Rattle.vs_command.specs.Refusals.{refusal_of};
-ghost use Rattle.vs_command.specs.Requests.{search_of};
+ghost use Rattle.vs_command.specs.Requests.{search_of, what_of};
 ghost use Rattle.vs_command.specs.Scores.{HasScores};
+ghost use Rattle.vs_query.specs.Found.{place_sought};
+ghost use Rattle.vs_store.specs.Causes.{IsCause};
 
 use crate::{Looked, Store};
-use std::alloc::AllocError;
 use std::sync::ledger::Ledger;
-use vs_command::{Answer, Refusal, Search};
+use vs_command::{Answer, Refusal, Search, What};
 use vs_graph::Steps;
-use vs_outside::NoMemory;
+use vs_outside::{List, NoMemory};
+use vs_query::find;
+use vs_set::{Kept, Set};
 use vs_slot::Slot;
+
+/// The place of the member whose vector is looked for, none for a vector of the search's own; or why the set refuses the search.
+pub(crate) fn place_in(set: &Set<Kept>, what: &What) -> Result<Option<u32>, Refusal>
+    ensures unrefused { IfOk result (λ place. search_refusal (what_of what.now) (Some set.now.contents) ≡ None) }
+    ensures sought { IfOk result (λ place. place ≡ place_sought (what_of what.now) set.now.contents.members) }
+    ensures refused { IfErr result (λ e. IsCause e (search_refusal (what_of what.now) (Some set.now.contents))) }
+{
+    match what {
+        What::Ele(name) => match set.place_of(name.as_slice()) {
+            Some(place) => Ok(Some(place)),
+            None => Err(Refusal::NoSuchElement),
+        },
+        What::Values(bits) if bits.dim() != set.dim() => Err(Refusal::WrongDimension {
+            given: bits.dim(),
+            has: set.dim(),
+        }),
+        What::Values(_) => Ok(None),
+    }
+}
 
 impl Store {
     /// Takes the set of the search's key as it is, or notes that the key is absent. The search is copied.
@@ -28,7 +50,7 @@ impl Store {
         ensures unrefused { IfOk result (λ l. store_refusal (plain self.now) (request.Vsim (search_of search.now)) ≡ None) }
         ensures refused { IfErr result (λ e. IfSome (refusal_of e) (λ cause. store_refusal (plain self.now) (request.Vsim (search_of search.now)) ≡ Some cause)) }
     {
-        self.look_with(search.try_clone()?)
+        self.look_with(search.try_clone(self.alloc)?)
     }
 
     /// The same with a search that is given up. Besides the snapshot it takes no memory.
@@ -39,7 +61,22 @@ impl Store {
         ensures unrefused { IfOk result (λ l. store_refusal (plain self.now) (request.Vsim (search_of search)) ≡ None) }
         ensures refused { IfErr result (λ e. IfSome (refusal_of e) (λ cause. store_refusal (plain self.now) (request.Vsim (search_of search)) ≡ Some cause)) }
     {
-        Err(Refusal::NoMemory)
+        let Some(set) = self.set_at(search.key.as_slice()) else {
+            return Ok(Looked {
+                alloc: self.alloc,
+                search,
+                set: None,
+                place: None,
+            });
+        };
+        let place = place_in(set, &search.what)?;
+        let snap = set.snapshot()?;
+        Ok(Looked {
+            alloc: self.alloc,
+            search,
+            set: Some(snap),
+            place,
+        })
     }
 
     /// Answers a search in the set at its look.
@@ -52,6 +89,20 @@ impl Store {
         ensures scores { IfOk result HasScores }
         ensures told { IfOk result (λ answer. looked.search.truth ≡ false → ReadsToFind looked.search looked.set (answer_of answer) (reads.new - reads.old)) }
     {
-        Err(AllocError)
+        let Looked {
+            alloc,
+            search,
+            set,
+            place,
+        } = looked;
+        match set {
+            Some(snap) => find(alloc, &snap, &search, place, slot, reads),
+            None => Ok(Answer::Hits {
+                dim: 1,
+                scores: search.scores,
+                attrs: search.attrs,
+                hits: List::new(alloc),
+            }),
+        }
     }
 }

@@ -96,10 +96,18 @@ impl Store {
             Request::Vcard(key) => Ok(self.cardinality(key.as_slice())),
             Request::Vdim(key) => self.dimension(key.as_slice()),
             Request::Vemb { key, name } => self.embedding(key.as_slice(), name.as_slice()),
-            Request::Vlinks { key, name, scores } => self.links(key.as_slice(), name.as_slice(), *scores),
+            Request::Vlinks { key, name, scores } => self.links(
+                key.as_slice(),
+                name.as_slice(),
+                *scores,
+            ),
             Request::Vinfo(key) => self.info(key.as_slice()),
             Request::Vgetattr { key, name } => self.attribute(key.as_slice(), name.as_slice()),
-            Request::Vsetattr { key, name, text } => self.set_attribute(key.as_slice(), name.as_slice(), text),
+            Request::Vsetattr { key, name, text } => self.set_attribute(
+                key.as_slice(),
+                name.as_slice(),
+                text,
+            ),
             Request::Vrandmember { key, count } => self.random(key.as_slice(), *count, words),
             Request::Vismember { key, name } => Ok(self.is_member(key.as_slice(), name.as_slice())),
         }
