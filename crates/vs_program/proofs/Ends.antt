@@ -1,5 +1,5 @@
 -- The ends before the first read.
-use Rattle.std.proofs.Common.{◌≡◌, ◌||◌, ℕ, Bool, true, false, cond, List, [], ◌∷◌, Option, Some, None, is_some, option_map, codes, refl, sym, inl, inr, append-nil}
+use Rattle.std.proofs.Common.{◌≡◌, ◌||◌, ℕ, Bool, true, false, cond, List, [], ◌∷◌, Option, Some, None, is_some, option_map, codes, refl, sym, inl, inr, append-nil, arith}
 use Rattle.vs_defs.specs.Bytes.{Bytes, same_name}
 use Rattle.vs_defs.specs.ProgramWords.{Settings, setting, settings_of, seed, job_by}
 use Rattle.vs_defs.specs.ProgramWords.Job.{Script}
@@ -27,7 +27,7 @@ serves_none seed left written = record {
   status_is = refl;
   taken = in_front-none left;
   put = Adds-none written;
-  ends = ends_at_once (λ h g. IsOwn 0 h) (fresh (generator seed 0)) (record { legal = tt; by_one = refl });
+  ends = ends_at_once (λ h g. IsOwn 0 h) (fresh (generator seed 0)) (record { legal = tt; by_one = refl; good = λ k e h. absurd (omega (arith, h)) });
   nothing = λ at_end. elim at_end [ inl e ↦ cc | inr e ↦ cc ];
 }
 

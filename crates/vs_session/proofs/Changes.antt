@@ -4,12 +4,13 @@ use Rattle.std.specs.Prelude.{count_by}
 use Rattle.vs_defs.specs.Bytes.{Bytes, listed}
 use Rattle.vs_defs.specs.Reply.{reply}
 use Rattle.vs_defs.specs.Request as request
-use Rattle.vs_defs.specs.Store.{PlainStore, Contents, Member, set_of, member_of}
+use Rattle.vs_defs.specs.Store.{Store, Set, PlainStore, Contents, Member, set_of, member_of, plain}
 use Rattle.vs_defs.specs.Memory.{needs_no_memory}
 use Rattle.vs_defs.specs.Refuse.{has_key, has_member}
-use Rattle.vs_defs.specs.PlainAnswer.{plain_answer, at_set, truth_number}
+use Rattle.vs_defs.specs.PlainAnswer.{at_set, truth_number}
+use Rattle.vs_defs.specs.Answers.{IsAnswer}
 use Rattle.vs_defs.specs.PlainStep.{changed, added, added_to, number_of_change, drawn_level}
-use Rattle.vs_defs.specs.PlainMachine.{PlainDoes, PlainChanges}
+use Rattle.vs_thread_defs.specs.Machine.{StoreDoes, StoreChanges}
 use Rattle.vs_command.specs.declared.answer.Answer.{Answer}
 use Rattle.vs_command.specs.declared.answer.Answer.TheVariants.{Int, Pong, Bye, Bulk, NullText, NullList, Names, Signs, Hits, Layers, Info as Informed}
 use Rattle.vs_command.specs.declared.refusal.Refusal.{Refusal}
@@ -66,14 +67,14 @@ long_is_none (Hits dim scores attrs hits) e i = absurd i
 long_is_none (Layers dim scores layers) e i = absurd i
 long_is_none (Informed info) e i = absurd i
 
-number_is_short : (old : PlainStore) (r : request.Request) (words : List ℕ) (new : PlainStore) (a : Answer) → PlainChanges old r words (answer_of a) new → short_of (Ok a) ≡ None → ⊥
+number_is_short : (old : Store Set) (r : request.Request) (words : List ℕ) (new : Store Set) (a : Answer) → StoreChanges old r words (answer_of a) new None → short_of (Ok a) ≡ None → ⊥
 number_is_short old r words new a c long =
-    let n : IsNumber (changed old r words).1 = changed_number old r words in
-    long_is_none a long (subst IsBrief (sym (c.step.answers ∙ n.1)) tt)
+    let n : IsNumber (changed (plain old) r words).1 = changed_number (plain old) r words in
+    long_is_none a long (subst IsBrief (sym (c.step.contents.answers ∙ n.1)) tt)
 
 -- so an answer that memory is refused for may be replaced
-pub long_changes_nothing : (old new : PlainStore) (r : request.Request) (words : List ℕ) (result : Result Answer Refusal) →
-    PlainDoes old r words (outcome_of result) new → short_of result ≡ None → new ≡ old
+pub long_changes_nothing : (old new : Store Set) (r : request.Request) (words : List ℕ) (result : Result Answer Refusal) →
+    StoreDoes old r words (outcome_of result) new → short_of result ≡ None → new ≡ old
 long_changes_nothing old new r words (Ok a) (inl c) long = absurd (number_is_short old r words new a c long)
 long_changes_nothing old new r words (Ok a) (inr (same, answers)) long = same
 long_changes_nothing old new r words (Err e) does long = absurd (cc)
@@ -87,16 +88,16 @@ brief_at : (x : Option Contents) (f : Contents → ℤ) → IsBrief (at_set x (r
 brief_at None f = tt
 brief_at (Some x) f = tt
 
-brief_answer : (s : PlainStore) (r : request.Request) (words : List ℕ) (a : request.Answer) → needs_no_memory r ≡ true → plain_answer s r words ≡ Some a → IsBrief a
+brief_answer : (s : Store Set) (r : request.Request) (words : List ℕ) (a : request.Answer) → needs_no_memory r ≡ true → IsAnswer s r words a → IsBrief a
 brief_answer s (request.Ping None) words a none is = brief_some a request.Pong is tt
 brief_answer s (request.Ping (Some text)) words a none is = absurd (cc)
 brief_answer s request.Quit words a none is = brief_some a request.Bye is tt
-brief_answer s (request.Exists keys) words a none is = brief_some a (request.Int (pos (count_by (has_key s) keys))) is tt
+brief_answer s (request.Exists keys) words a none is = brief_some a (request.Int (pos (count_by (has_key (plain s)) keys))) is tt
 brief_answer s (request.Vcard key) words a none is =
-    brief_some a (at_set (set_of key s) (request.Int (pos 0)) (λ x. request.Int (pos (length x.members)))) is (brief_at (set_of key s) (λ x. pos (length x.members)))
+    brief_some a (at_set (set_of key (plain s)) (request.Int (pos 0)) (λ x. request.Int (pos (length x.members)))) is (brief_at (set_of key (plain s)) (λ x. pos (length x.members)))
 brief_answer s (request.Vdim key) words a none is =
-    brief_some a (at_set (set_of key s) (request.Int (pos 0)) (λ x. request.Int (pos x.dim))) is (brief_at (set_of key s) (λ x. pos x.dim))
-brief_answer s (request.Vismember key name) words a none is = brief_some a (request.Int (truth_number (has_member s key name))) is tt
+    brief_some a (at_set (set_of key (plain s)) (request.Int (pos 0)) (λ x. request.Int (pos x.dim))) is (brief_at (set_of key (plain s)) (λ x. pos x.dim))
+brief_answer s (request.Vismember key name) words a none is = brief_some a (request.Int (truth_number (has_member (plain s) key name))) is tt
 brief_answer s (request.Del keys) words a none is = absurd (cc)
 brief_answer s (request.Vadd add) words a none is = absurd (cc)
 brief_answer s (request.Vrem key name) words a none is = absurd (cc)
@@ -108,10 +109,10 @@ brief_answer s (request.Vgetattr key name) words a none is = absurd (cc)
 brief_answer s (request.Vsetattr key name text) words a none is = absurd (cc)
 brief_answer s (request.Vrandmember key n) words a none is = absurd (cc)
 
-pub short_reply_of : (old new : PlainStore) (r : request.Request) (words : List ℕ) (result : Result Answer Refusal) →
-    PlainDoes old r words (outcome_of result) new → needs_no_memory r ≡ true → short_of result ≢ None
+pub short_reply_of : (old new : Store Set) (r : request.Request) (words : List ℕ) (result : Result Answer Refusal) →
+    StoreDoes old r words (outcome_of result) new → needs_no_memory r ≡ true → short_of result ≢ None
 short_reply_of old new r words (Ok a) (inl c) none long = number_is_short old r words new a c long
-short_reply_of old new r words (Ok a) (inr (same, answers)) none long = long_is_none a long (brief_answer old r words (answer_of a) none answers.answer)
+short_reply_of old new r words (Ok a) (inr (same, answers)) none long = long_is_none a long (brief_answer old r words (answer_of a) none answers.answer_is)
 short_reply_of old new r words (Err e) does none long = cc
 
 -- a short reply is the outcome's reply

@@ -7,7 +7,7 @@ use Rattle.vs_defs.specs.Stream.{Message}
 use Rattle.vs_session_defs.specs.Session.{is_ping_or_quit}
 use Rattle.vs_command.specs.declared.answer.Answer.{Answer}
 use Rattle.vs_command.specs.declared.refusal.Refusal.{Refusal}
-use Rattle.vs_command.specs.declared.refusal.Refusal.TheVariants.{UnknownCommand, WrongArity, BadKey, BadVectorForm, Fp32, Reduce, BadDimension, ShortVector, BadComponent, BadName, UnknownOption, MissingValue, Quantiser, BadEf, BadM, LongAttribute, BadCount, Epsilon, BadFilterEf, LongFilter, FilterSyntax, FilterTooDeep, Raw, NotBuilt, NoSuchKey, NoSuchElement, WrongDimension, WrongM, FullSet, FullKeys, FullAll, ChangeLimit, NoMemory}
+use Rattle.vs_command.specs.declared.refusal.Refusal.TheVariants.{UnknownCommand, WrongArity, BadKey, BadVectorForm, Fp32, Reduce, BadDimension, ShortVector, BadComponent, BadName, UnknownOption, MissingValue, Quantiser, BadEf, BadM, LongAttribute, BadCount, Epsilon, BadFilterEf, LongFilter, FilterSyntax, FilterTooDeep, Raw, NoSuchKey, NoSuchElement, WrongDimension, WrongM, FullSet, FullKeys, FullAll, ChangeLimit, NoMemory}
 use Rattle.vs_command.specs.Outcomes.{outcome_of, refused_by}
 use Rattle.vs_command.specs.Refusals.{refusal_of}
 use Rattle.vs_reply.specs.Replies.{short_of}
@@ -40,7 +40,6 @@ no_cause (LongFilter a) is = cc
 no_cause (FilterSyntax a) is = cc
 no_cause (FilterTooDeep a) is = cc
 no_cause Raw is = cc
-no_cause NotBuilt is = cc
 no_cause NoSuchKey is = cc
 no_cause NoSuchElement is = cc
 no_cause (WrongDimension a b) is = cc

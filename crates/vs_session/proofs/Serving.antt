@@ -6,8 +6,6 @@ use Rattle.vs_defs.specs.Request as request
 use Rattle.vs_defs.specs.Stream.{Message}
 use Rattle.vs_defs.specs.Reply.{Outcome}
 use Rattle.vs_defs.specs.Reply as outcome
-use Rattle.vs_defs.specs.Read.{read as read_words}
-use Rattle.vs_defs.specs.Stages.{is_plain, if_built}
 use Rattle.vs_session_defs.specs.Session as session
 use Rattle.vs_session_defs.specs.Session.{is_ping_or_quit}
 use Rattle.rand_pcg.specs.Pcg.{pcg32}
@@ -22,19 +20,6 @@ use Rattle.vs_connection.proofs.Pings.{one_word}
 use Rattle.vs_session.specs.Does.{Does}
 use Rattle.vs_session.specs.After.{After}
 use Rattle.vs_session.proofs.Memory.{no_cause}
-
--- ---- what is read is built
-
-is_built_at : (test : request.Request → Bool) (b : Bool) (q r : request.Request) → test q ≡ b → cond b (Ok q) (Err request.NotBuilt) ≡ Ok r → test r ≡ true
-is_built_at test true q r is e = let same : q ≡ r = cc in ap test (sym same) ∙ is
-is_built_at test false q r is e = absurd (cc)
-
-is_built : (test : request.Request → Bool) (x : Result request.Request request.Refusal) (r : request.Request) → if_built test x ≡ Ok r → test r ≡ true
-is_built test (Ok q) r e = is_built_at test (test q) q r refl e
-is_built test (Err e) r is = absurd (cc)
-
-pub read_is_plain : (message : Message) (r : request.Request) → read message ≡ Ok r → is_plain r ≡ true
-read_is_plain message r e = is_built is_plain (read_words message) r e
 
 -- ---- what is drawn
 

@@ -1,9 +1,9 @@
-//! A connection alone, over a store of its own.
+//! A connection alone, over a store of its own: each change of the store is one of the connection's own requests, and leaves a good store.
 ghost use Rattle.std.specs.Prelude.{◌≡◌, ◌<◌, ◌⊎◌, ◌↔◌};
 ghost use Rattle.vs_defs.specs.Bytes.{Bytes};
 ghost use Rattle.vs_session_defs.specs.Words.{generator as generator_of};
 ghost use Rattle.vs_outside.specs.Known.{Adds, in_front, NothingLeft};
-ghost use Rattle.vs_defs.specs.PlainMachine.{PlainHistory};
+ghost use Rattle.vs_thread_defs.specs.Machine.{GraphHistory};
 ghost use Rattle.vs_session.specs.Alone.{Call, Stored, EndsWith};
 
 use crate::{Machine, Server};
@@ -11,17 +11,25 @@ use std::alloc::Global;
 use vs_command::{Answer, Refusal, Request};
 use vs_connection::{SessionEnd, generator, serve_by};
 use vs_outside::{Sink, Source};
-use vs_plain_store::{Limits, Store};
+use vs_slot::Slot;
+use vs_store::{Limits, Store};
 
-impl Machine for Store {
-    ghost Known = { PlainHistory };
+// A store that nobody else changes, with the one slot in which all its searches run.
+#[derive(Drop)]
+struct OwnStore {
+    store: Store,
+    slot: Slot,
+}
+
+impl Machine for OwnStore {
+    ghost Known = { GraphHistory };
 
     ghost call = { Call };
 
-    ghost knows = { λ s k h. Stored s k h };
+    ghost knows = { λ s k h. Stored s.store k h };
 
     fn do_now(&mut self, request: Request, words: &[u32]) -> Result<Answer, Refusal> {
-        Store::do_now(self, request, words)
+        self.store.do_now(0, &request, words, &mut self.slot)
     }
 }
 
@@ -41,7 +49,10 @@ pub fn serve_alone<S: Source, K: Sink>(
     ensures read_fault { (result ≡ SessionEnd.ReadFault) ↔ (S.faults source.old < S.faults source.new) }
     ensures write_fault { (result ≡ SessionEnd.WriteFault) ↔ (K.faults sink.old < K.faults sink.new) }
 {
-    let store = Store::new(alloc, Limits::usual());
-    let mut server = Server::new(alloc, store, generator(seed, 0));
+    let machine = OwnStore {
+        store: Store::new(alloc, Limits::usual()),
+        slot: Slot::new(alloc),
+    };
+    let mut server = Server::new(alloc, machine, generator(seed, 0));
     serve_by(alloc, &mut server, source, sink)
 }

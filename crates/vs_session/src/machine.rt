@@ -4,7 +4,6 @@ ghost use Rattle.vs_defs.specs.Read.{draws as draws_of};
 ghost use Rattle.vs_defs.specs.Bounds.{IsInBounds};
 ghost use Rattle.vs_defs.specs.Memory.{needs_no_memory};
 ghost use Rattle.vs_defs.specs.Reply as outcome;
-ghost use Rattle.vs_defs.specs.Stages.{is_plain};
 ghost use Rattle.vs_command.specs.Outcomes.{outcome_of};
 ghost use Rattle.vs_command.specs.Requests.{request_of};
 ghost use Rattle.vs_command.specs.Scores.{HasScores};
@@ -30,7 +29,6 @@ pub trait Machine {
     fn do_now(&mut self, request: Request, words: &[u32]) -> Result<Answer, Refusal>
         requires bounds { IsInBounds (request_of request) }
         requires words { length words.now ≡ draws_of (request_of request) }
-        requires plain { is_plain (request_of request) ≡ true }
         ensures does { (author : ℕ) (h : Known) → knows self.old author h
             → Does call author (knows self.new author) h (request_of request) words.now (outcome_of result) }
         ensures long { short_of result ≡ None → (author : ℕ) (h : Known) → knows self.old author h

@@ -8,6 +8,8 @@ mod interaction;
 #[cfg(test)]
 mod limits;
 #[cfg(test)]
+mod links;
+#[cfg(test)]
 mod pipeline;
 #[cfg(test)]
 mod requests;

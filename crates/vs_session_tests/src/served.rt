@@ -1,6 +1,7 @@
 //! A connection between a source and a sink in memory.
 ghost use Rattle.std.specs.Prelude.{◌≡◌, ◌≤◌};
 
+use crate::requests::requests;
 use std::alloc::Global;
 use vs_connection::SessionEnd;
 use vs_outside::{List, MemSink, MemSource, NoMemory, Text};
@@ -32,6 +33,20 @@ pub fn gives(
     for piece in [1, 7, 16_384] {
         let (ended, sink) = served(alloc, input.try_clone()?, piece, 0, 0)?;
         if ended != end || sink.written() != output {
+            return Ok(false);
+        }
+    }
+    Ok(true)
+}
+
+/// Requests in short, and the replies to them.
+pub type Worked = (&'static [u8], &'static [u8]);
+
+/// Whether all of these are replied so, each by a connection of its own.
+pub fn are_replied(alloc: Global, cases: &[Worked]) -> Result<bool, NoMemory> {
+    for (lines, output) in cases {
+        let input = requests(alloc, lines)?;
+        if !gives(alloc, &input, SessionEnd::Ended, output)? {
             return Ok(false);
         }
     }

@@ -1,28 +1,30 @@
 //! A store that another author changes between two messages: a connection over it is a session of its own author.
 ghost use Rattle.std.specs.Prelude.{◌≡◌, ◌≤◌, IfOk, codes};
 ghost use Rattle.vs_defs.specs.Bytes.{Bytes};
-ghost use Rattle.vs_defs.specs.PlainMachine.{PlainHistory};
 ghost use Rattle.vs_defs.specs.Request as request;
 ghost use Rattle.vs_command.specs.Requests.{request_of};
 ghost use Rattle.vs_outside.specs.Known.{Adds, in_front};
 ghost use Rattle.vs_session_defs.specs.Words.{generator as generator_of};
+ghost use Rattle.vs_thread_defs.specs.Machine.{GraphHistory};
 ghost use Rattle.vs_connection.specs.Connection.{EndsAt};
-ghost use Rattle.vs_session.specs.Alone.{Call, Legal, fresh};
-ghost use Rattle.vs_session_tests.specs.Shared.{IsAfter, OthersChange};
+ghost use Rattle.vs_session.specs.Alone.{Call, fresh};
+ghost use Rattle.vs_session_tests.specs.Shared.{IsAfter, IsSound, OthersChange};
 
 use std::alloc::Global;
 use std::test::Fail;
 use vs_command::{Answer, Refusal, Request};
 use vs_connection::{SessionEnd, generator, serve_by};
 use vs_outside::{List, MemSink, MemSource, NoMemory, Sink, Source, Text};
-use vs_plain_store::{Limits, Store};
 use vs_session::{Machine, Server};
+use vs_slot::Slot;
+use vs_store::{Limits, Store};
 
 // The author 0 carries its requests out here. Before each of them the author 1 removes the member `a` of the set `s`.
 #[derive(Drop)]
 struct Shared {
     alloc: Global,
     store: Store,
+    slot: Slot,
 }
 
 fn removal(alloc: Global) -> Result<Request, NoMemory>
@@ -34,34 +36,38 @@ fn removal(alloc: Global) -> Result<Request, NoMemory>
 }
 
 // The author 1 makes its change, where there is memory for the request.
-fn let_other_remove(alloc: Global, store: &mut Store)
-    ensures { (h : PlainHistory) → IsAfter store.old h → OthersChange store.new h }
+fn let_other_remove(alloc: Global, store: &mut Store, slot: &mut Slot)
+    ensures { (h : GraphHistory) → IsAfter store.old h → OthersChange store.new h }
 {
     if let Ok(request) = removal(alloc) {
-        let _answer = Store::do_now(store, request, &[]);
+        let _answer = store.do_now(1, &request, &[], slot);
     }
 }
 
 impl Machine for Shared {
-    ghost Known = { PlainHistory };
+    ghost Known = { GraphHistory };
 
     ghost call = { Call };
 
     ghost knows = { λ s k h. (k ≡ 0) × IsAfter s.store h };
 
     fn do_now(&mut self, request: Request, words: &[u32]) -> Result<Answer, Refusal> {
-        let_other_remove(self.alloc, &mut self.store);
-        Store::do_now(&mut self.store, request, words)
+        let_other_remove(self.alloc, &mut self.store, &mut self.slot);
+        self.store.do_now(0, &request, words, &mut self.slot)
     }
 }
 
 // One connection of the author 0.
 fn serve_shared<S: Source, K: Sink>(alloc: Global, source: &mut S, sink: &mut K) -> SessionEnd
     ensures { (input : Bytes) × (output : Bytes) × (S.left source.old ≡ in_front input (S.left source.new))
-        × Adds (K.written sink.old) output (K.written sink.new) × EndsAt Call 0 (λ h g. Legal h) result (fresh (generator_of 7 0)) input output }
+        × Adds (K.written sink.old) output (K.written sink.new) × EndsAt Call 0 (λ h g. IsSound h) result (fresh (generator_of 7 0)) input output }
 {
-    let store = Store::new(alloc, Limits::usual());
-    let mut server = Server::new(alloc, Shared { alloc, store }, generator(7, 0));
+    let shared = Shared {
+        alloc,
+        store: Store::new(alloc, Limits::usual()),
+        slot: Slot::new(alloc),
+    };
+    let mut server = Server::new(alloc, shared, generator(7, 0));
     serve_by(alloc, &mut server, source, sink)
 }
 

@@ -1,15 +1,16 @@
-use Rattle.std.proofs.Common.{◌∙◌, ap, sym, refl}
+use Rattle.std.proofs.Common.{◌∙◌, ap, sym, refl, arith}
 use Rattle.vs_defs.specs.Store.{empty_store}
 use Rattle.vs_session_defs.specs.Words.{generator}
 use Rattle.vs_session.specs.Alone.{fresh}
+use Rattle.vs_session.specs.declared.alone.OwnStore.{OwnStore}
 use Rattle.vs_session.proofs.alone.serve_alone.Goals as goal
 
 pub returns-clause-session : goal.returns-clause-session
 returns-clause-session g c =
     let i = c.serve_by.ensures.session 0 (fresh (generator c.args.seed 0)) (record {
       known = record {
-        own = record { legal = tt; by_one = refl };
-        store_is = sym (c.new-server.ensures.machine ∙ c.new-store.ensures ∙ ap empty_store c.usual.ensures);
+        own = record { legal = tt; by_one = refl; good = λ k e h. absurd (omega (arith, h)) };
+        store_is = sym (ap (λ (m : OwnStore). m.store) c.new-server.ensures.machine ∙ c.new.ensures ∙ ap empty_store c.usual.ensures);
       };
       words = c.new-server.ensures.generator ∙ c.generator.ensures;
     }) in (

@@ -1,4 +1,4 @@
-use Rattle.std.proofs.Common.{◌∙◌, ap, sym, refl}
+use Rattle.std.proofs.Common.{◌∙◌, ap, sym, refl, arith}
 use Rattle.vs_defs.specs.Store.{empty_store}
 use Rattle.vs_session_defs.specs.Words.{generator}
 use Rattle.vs_session.specs.Alone.{fresh}
@@ -8,6 +8,12 @@ use Rattle.vs_session_tests.proofs.shared.serve_shared.Goals as goal
 pub returns : goal.returns
 returns g c =
     let i = c.serve_by.ensures.session 0 (fresh (generator 7 0)) (record {
-      known = (refl, record { legal = tt; store_is = sym (ap (λ (m : Shared). m.store) c.new-server.ensures.machine ∙ c.new-store.ensures ∙ ap empty_store c.usual.ensures) });
+      known = (
+        refl,
+        record {
+          sound = record { legal = tt; good = λ k e h. absurd (omega (arith, h)) };
+          store_is = sym (ap (λ (m : Shared). m.store) c.new-server.ensures.machine ∙ c.new.ensures ∙ ap empty_store c.usual.ensures);
+        },
+      );
       words = c.new-server.ensures.generator ∙ c.generator.ensures;
-    }) in (i.0, i.1, i.2, i.3, record { now = i.4.now; there = i.4.there.known.1.legal; is_end = i.4.is_end })
+    }) in (i.0, i.1, i.2, i.3, record { now = i.4.now; there = i.4.there.known.1.sound; is_end = i.4.is_end })

@@ -10,7 +10,7 @@ use Rattle.vs_session_defs.specs.Session.{is_ping_or_quit}
 use Rattle.vs_command.specs.declared.refusal.Refusal.TheVariants.{NoMemory}
 use Rattle.vs_connection.specs.Served.{IsServed}
 use Rattle.vs_session.specs.After.{After}
-use Rattle.vs_session.proofs.Serving.{length_drawn, read_is_plain, carried_out, starved, with_reply}
+use Rattle.vs_session.proofs.Serving.{length_drawn, carried_out, starved, with_reply}
 use Rattle.vs_session.proofs.Memory.{answered, long_no_ping, draws_none}
 use Rattle.vs_session.proofs.server.Server.carry_out.Goals as goal
 
@@ -18,9 +18,6 @@ pub do_now-requires-clause-words : goal.do_now-requires-clause-words
 do_now-requires-clause-words g c =
     ap (λ (l : List ℕ). length l) (c.as_slice.ensures.value ∙ c.in_ok-words.ensures.words)
     ∙ length_drawn c.draws.result c.args.self.now.generator ∙ c.draws.ensures
-
-pub do_now-requires-clause-plain : goal.do_now-requires-clause-plain
-do_now-requires-clause-plain g c = read_is_plain c.args.message.now (request_of c.in_ok-request.request) c.in_ok-request.ensures.request
 
 pub returns-in_err-words-clause-served : goal.returns-in_err-words-clause-served
 returns-in_err-words-clause-served g c author h k after =

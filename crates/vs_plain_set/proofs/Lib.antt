@@ -1,4 +1,0 @@
-pub mod Places
-pub mod Kept
-pub mod Changes
-pub mod Named

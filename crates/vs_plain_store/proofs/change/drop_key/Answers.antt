@@ -1,8 +1,0 @@
-use Rattle.std.proofs.Common.{rules, not}
-use Rattle.std.proofs.lemmas.Fn.{filter_same}
-use Rattle.vs_defs.specs.Bytes.{same_name}
-use Rattle.vs_plain_store.proofs.change.drop_key.Goals as goal
-
-pub returns : goal.returns
-returns c =
-    filter_same _ (λ e. not (same_name c.args.key.now e.0)) _ (λ x b q k. (search rules, search rules)) c.args.sets.now.items c.retain.new.self.items c.retain.ensures.filtered
