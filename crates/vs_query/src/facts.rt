@@ -3,8 +3,7 @@ ghost use Rattle.std.specs.Prelude.{◌≡◌, ◌<◌, Some, length, IfOk};
 ghost use Rattle.vs_defs.specs.Answers.{info_answer};
 ghost use Rattle.vs_command.specs.Answers.{answer_of};
 
-use std::alloc::AllocError;
-use vs_command::Answer;
+use vs_command::{Answer, Info};
 use vs_graph::Nodes;
 use vs_outside::NoMemory;
 use vs_set::Set;
@@ -15,5 +14,12 @@ pub fn info<N: Nodes>(set: &Set<N>) -> Result<Answer, NoMemory>
     requires { 0 < length set.now.contents.members }
     ensures { IfOk result (λ answer. answer_of answer ≡ info_answer (Some set.now)) }
 {
-    Err(AllocError)
+    let snap = set.snapshot()?;
+    Ok(Answer::Info(Info {
+        m: set.m(),
+        dim: set.dim(),
+        size: set.count(),
+        max_level: snap.top(),
+        attributes: set.attribute_count(),
+    }))
 }

@@ -2,12 +2,15 @@
 //! query goes through the members but a search with TRUTH.
 #![tactic(auto)]
 
-mod hits;
 mod facts;
+mod hits;
 mod layers;
 mod member;
 mod picking;
 mod search;
+#[cfg(test)]
+mod tests;
+mod vector;
 
 pub use facts::info;
 pub use layers::links;
