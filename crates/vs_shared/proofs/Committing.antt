@@ -1,24 +1,23 @@
 -- A draft that isn't stale may be committed: whoever was chosen stands there still, with the bits that they had.
-use Rattle.std.proofs.Common.{◌≡◌, ◌≢◌, ℕ, ◌<◌, ◌≤◌, ◌+◌, ◌-◌, Bool, true, false, cond, List, [], ◌∷◌, length, map, reverse, refl, sym, ap, ◌∙◌, subst, inl, inr, arith, get_or}
-use Rattle.std.specs.Prelude.{Option, Some, None, IsTrue, IsSomeAnd, All, AllPairs, not, ◌==◌, option_map, unwrap_or, slice_get}
+use Rattle.std.proofs.Common.{◌≡◌, ℕ, ◌<◌, ◌≤◌, ◌+◌, ◌-◌, Bool, true, false, cond, List, [], length, map, refl, sym, ap, ◌∙◌, subst, inl, inr, arith, get_or}
+use Rattle.std.specs.Prelude.{Option, Some, None, IsTrue, IsSomeAnd, All, not, ◌==◌, option_map, unwrap_or, slice_get}
 use Rattle.std.proofs.lemmas.Bool.{cases_lt, leb-true}
 use Rattle.std.proofs.lemmas.Bool.Decides.{Decides-eqb}
 use Rattle.std.proofs.lemmas.List.{get_or-map, get_or-reverse, length-map, length-reverse}
 use Rattle.std.proofs.lemmas.Option.{none-some, same_Some, slice_get_past, unwrap_or-slice_get}
 use Rattle.vs_defs.specs.Bytes.{Bytes}
 use Rattle.vs_defs.specs.Vector.{Vector}
-use Rattle.vs_defs.specs.History.{Preparation}
 use Rattle.vs_defs.specs.Links.{reaches, stands_at}
-use Rattle.vs_defs.specs.Request.{Refusal}
+use Rattle.vs_defs.specs.Request.{Add, Refusal}
 use Rattle.vs_defs.specs.Stale.{stale_by}
 use Rattle.vs_defs.specs.Store.{Member, Set, Store, Limits, member_of, set_of}
 use Rattle.vs_thread_defs.specs.Core as core
-use Rattle.vs_thread_defs.specs.Core.{HasBits, names_down}
+use Rattle.vs_thread_defs.specs.Core.{DraftedAt, HasBits, names_down}
 use Rattle.vs_thread_defs.specs.Laws.{DraftKeepsChosen, KeepsShape, shape_of}
 use Rattle.vs_thread_defs.specs.Machine.{GraphHistory, store_of, store_at}
 use Rattle.vs_insert.specs.Chosen.{AreLayerNames, AreChosenNames}
 use Rattle.vs_insert.proofs.Lists.{chosen_names}
-use Rattle.vs_store.specs.Drafts.{WasReadyIn, IsThere, AreThere, MayCommit, MayCommitIn}
+use Rattle.vs_store.specs.Drafts.{WasReadyIn, IsPrepared, AreThere, MayCommit, MayCommitIn}
 use Rattle.vs_pass.specs.Task.{Holding}
 use Rattle.vs_shared.specs.Calls.{IsReadyAfter, prepared_after}
 use Rattle.vs_pass.proofs.Tasks.{at_the_end, at_a_beginning}
@@ -132,3 +131,19 @@ module _ (limits : Limits) (s : GraphHistory) (ready : core.Ready) (at : IsReady
       (ap (set_of ready.add.key) (sym ends) ∙ there) at.are_chosen
       (subst (λ (cut : ℕ). stale_by cut ready.add.name (Some now) ≡ None) at.cut_is fresh) in
       may_commit_in at.set now ready was_ready kept.0 kept.1 kept.2
+
+-- what was drafted and then prepared may be committed
+pub ready_after : (limits : Limits) (t : GraphHistory) (add : Add) (drawn : ℕ) (d : core.Drafting) (ready : core.Ready) → DraftedAt limits t add drawn (length t) d → IsPrepared d ready → IsReadyAfter limits t ready
+ready_after limits t add drawn d ready at prepared = record {
+  before = omega arith;
+  add_is = refl;
+  drawn_is = refl;
+  set = d.set;
+  set_is = ap (λ (a : Add). set_of a.key (store_at limits t (length t))) (prepared.add ∙ at.add_is) ∙ at.set_is;
+  draftable = prepared.was.draftable;
+  cut_is = prepared.was.cut;
+  level_is = prepared.was.level;
+  chosen_are = refl;
+  are_chosen = prepared.was.chosen;
+  have_bits = prepared.was.bits;
+}

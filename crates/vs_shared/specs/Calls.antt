@@ -5,7 +5,7 @@
 --     DraftAnswers ..               an addition was drafted, or done at once, or refused
 --     prepared_after s ready        the preparation of a draft that was made at the end of s
 --     IsReadyAfter limits s ready   what a commit needs: it was drafted at the end of s
-use Rattle.std.specs.Prelude.{◌≡◌, ℕ, IsTrue, IsFalse, ⊤, [], ◌∷◌, Option, None, Result, Ok, Err, length}
+use Rattle.std.specs.Prelude.{◌≡◌, ℕ, IsTrue, IsFalse, ⊤, [], None, Result, Ok, Err, length}
 use Rattle.vs_defs.specs.Request as request
 use Rattle.vs_defs.specs.Request.{Request, Add, Search}
 use Rattle.vs_defs.specs.Reply as outcome

@@ -51,7 +51,7 @@ impl<'a> Task<Counted> for Commit<'a> {
 
     ghost work = { λ commit known old output new. commit_work commit.ready known old (outcome_of output.outcome) new };
 
-    ghost call = { λ commit limits k s output t. CommitCall limits k s commit.ready.add commit.word (prepared_after s commit.ready) (outcome_of output.outcome) t × IfOk output.outcome HasScores };
+    ghost call = { λ commit limits k s output t. CommitCall limits k s commit.ready.add commit.ready.drawn (prepared_after s commit.ready) (outcome_of output.outcome) t × IfOk output.outcome HasScores };
 
     fn run(self, store: &mut Counted, _known: u64) -> CommitOutput {
         draft_laws();

@@ -32,8 +32,7 @@ impl<'a> Task<Counted> for Now<'a> {
     ghost call = { λ now limits k s result t. NowCall limits k s (request_of now.request.now) now.words.now (outcome_of result) t × IfOk result HasScores };
 
     fn run(self, store: &mut Counted, _known: u64) -> Result<Answer, Refusal> {
-        store
-            .store
-            .do_now(self.author, self.request, self.words, self.slot)
+        let store = &mut store.store;
+        store.do_now(self.author, self.request, self.words, self.slot)
     }
 }

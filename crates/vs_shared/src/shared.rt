@@ -4,11 +4,11 @@ ghost use Rattle.vs_defs.specs.Bounds.{IsInBounds, IsSearchInBounds};
 ghost use Rattle.vs_defs.specs.History.{own};
 ghost use Rattle.vs_defs.specs.Memory.{needs_no_memory};
 ghost use Rattle.vs_defs.specs.Read.{draws};
-ghost use Rattle.vs_defs.specs.Reply as outcome;
 ghost use Rattle.vs_defs.specs.Request as requests;
 ghost use Rattle.vs_thread_defs.specs.Passes.{NowCall, DraftCall, CommitCall};
 ghost use Rattle.vs_thread_defs.specs.Passes as begun;
-ghost use Rattle.vs_command.specs.Outcomes.{outcome_of};
+ghost use Rattle.vs_command.specs.Outcomes.{outcome_of, refused_by};
+ghost use Rattle.vs_command.specs.Refusals.{refusal_of};
 ghost use Rattle.vs_command.specs.Requests.{request_of, search_of};
 ghost use Rattle.vs_command.specs.Scores.{HasScores};
 ghost use Rattle.vs_pass.specs.Knower.{Meets};
@@ -203,9 +203,8 @@ impl<N: TableName> Shared<N> {
 
 // Memory ran out before the hold: nothing is done, and the pass has seen what it had.
 fn starved<N: TableName>(pass: &Pass<N>) -> Refusal
-    ensures refusal { result ≡ Refusal.NoMemory }
-    ensures now { (r : requests.Request) (words : List ℕ) → needs_no_memory r ≡ false → NowCall N.limits pass.now.number pass.now.seen r words outcome.OutOfMemory pass.now.seen }
-    ensures draft { (add : requests.Add) (drawn : ℕ) → DraftCall N.limits pass.now.number pass.now.seen add drawn (begun.Done outcome.OutOfMemory) pass.now.seen }
+    ensures now { (r : requests.Request) (words : List ℕ) → needs_no_memory r ≡ false → NowCall N.limits pass.now.number pass.now.seen r words (refused_by (refusal_of result)) pass.now.seen }
+    ensures draft { (add : requests.Add) (drawn : ℕ) → DraftCall N.limits pass.now.number pass.now.seen add drawn (begun.Done (refused_by (refusal_of result))) pass.now.seen }
 {
     let _known = pass.known();
     Refusal::NoMemory
