@@ -27,11 +27,15 @@ fn messages(alloc: Global, connection: usize) -> Result<(Text, Text), NoMemory> 
     for round in 0..ROUNDS {
         let sign = if round % 2 == 0 { "1" } else { "-1" };
         let line = format!(in alloc;
-            "VADD all VALUES 4 1 {sign} 1 -1 c{connection}m{round}{}\r\nVADD own{connection} VALUES 2 1 {sign} m{round}\r\nVSIM all ELE c{connection}m{round} COUNT 0\r\nVCARD own{connection}\r\n",
+            "VADD all VALUES 4 1 {sign} 1 -1 c{connection}m{round}{}\r\nVADD own{connection} VALUES 2 1 {sign} m{round}\r\nVSIM own{connection} ELE m{round} COUNT 1\r\nVCARD own{connection}\r\n",
             if round % 3 == 0 { " CAS" } else { "" }
         )?;
         lines.extend_from_slice(line.as_str().as_bytes())?;
-        let reply = format!(in alloc; ":1\r\n:1\r\n*0\r\n:{}\r\n", round + 1)?;
+        let reply = format!(in alloc;
+            ":1\r\n:1\r\n*1\r\n$2\r\nm{}\r\n:{}\r\n",
+            round % 2,
+            round + 1
+        )?;
         replies.extend_from_slice(reply.as_str().as_bytes())?;
     }
     Ok((lines, replies))
