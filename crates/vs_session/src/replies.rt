@@ -1,8 +1,7 @@
 //! The replies of a connection. A short one takes no memory; a longer one is composed in a buffer that is kept from one to the next. An answer
 //! for whose reply there is no memory is replied as out of memory.
 ghost use Rattle.std.specs.Prelude.{◌≡◌, ◌≢◌, ◌<◌, ◌⊎◌, None, Ok, IfOk};
-ghost use Rattle.vs_defs.specs.Reply.{Outcome, reply};
-ghost use Rattle.vs_defs.specs.Reply as outcome;
+ghost use Rattle.vs_defs.specs.Reply.{Outcome, Answered, OutOfMemory, reply};
 ghost use Rattle.vs_session_defs.specs.Session.{is_bye};
 ghost use Rattle.vs_command.specs.Answers.{answer_of};
 ghost use Rattle.vs_command.specs.Outcomes.{outcome_of};
@@ -44,7 +43,7 @@ impl Replies {
     ) -> Replied
         requires scores { IfOk outcome.now HasScores }
         ensures replied { IsReplied result (K.written sink.old) (K.written sink.new) (outcome_of outcome.now)
-            ⊎ ((short_of outcome.now ≡ None) × IsReplied result (K.written sink.old) (K.written sink.new) outcome.OutOfMemory) }
+            ⊎ ((short_of outcome.now ≡ None) × IsReplied result (K.written sink.old) (K.written sink.new) OutOfMemory) }
         ensures failed { result ≡ Replied.Failed → K.faults sink.old < K.faults sink.new }
         ensures unfailed { result ≢ Replied.Failed → K.faults sink.new ≡ K.faults sink.old }
     {
@@ -93,7 +92,7 @@ fn write_line<K: Sink>(line: &[u8], bye: bool, sink: &mut K) -> Replied
 
 // Tells that there is no memory for a reply.
 fn write_want_of_memory<K: Sink>(sink: &mut K) -> Replied
-    ensures replied { IsReplied result (K.written sink.old) (K.written sink.new) outcome.OutOfMemory }
+    ensures replied { IsReplied result (K.written sink.old) (K.written sink.new) OutOfMemory }
     ensures failed { result ≡ Replied.Failed → K.faults sink.old < K.faults sink.new }
     ensures unfailed { result ≢ Replied.Failed → K.faults sink.new ≡ K.faults sink.old }
 {
@@ -107,8 +106,8 @@ fn write_want_of_memory<K: Sink>(sink: &mut K) -> Replied
 fn write_answer<K: Sink>(buffer: &mut Text, answer: &Answer, sink: &mut K) -> Replied
     requires scores { HasScores answer.now }
     requires long { short_of (Ok answer.now) ≡ None }
-    ensures replied { IsReplied result (K.written sink.old) (K.written sink.new) (outcome.Answered (answer_of answer.now))
-        ⊎ IsReplied result (K.written sink.old) (K.written sink.new) outcome.OutOfMemory }
+    ensures replied { IsReplied result (K.written sink.old) (K.written sink.new) (Answered (answer_of answer.now))
+        ⊎ IsReplied result (K.written sink.old) (K.written sink.new) OutOfMemory }
     ensures failed { result ≡ Replied.Failed → K.faults sink.old < K.faults sink.new }
     ensures unfailed { result ≢ Replied.Failed → K.faults sink.new ≡ K.faults sink.old }
 {

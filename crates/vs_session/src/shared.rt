@@ -39,9 +39,9 @@ impl<'a, N: TableName, R: Wait, G: Gate> SharedServer<'a, N, R, G> {
         requires few { length message.now ≤ 65536 }
         requires short { All (λ word. length word ≤ 65536) message.now }
         ensures served { (author : ℕ) (h : Lent) (g : Lcg) → IsAt self.old.pass.now self.old.pass.ghost_name author h g
-            → IsServed (lent_call N.limits) author (IsAt self.new.pass.now self.new.pass.ghost_name) (λ o. o ≡ outcome_of result) g h message.now }
+            → IsServed (lent_call N.limits) author (IsAt self.new.pass.now self.new.pass.ghost_name author) (λ o. o ≡ outcome_of result) g h message.now }
         ensures long { short_of result ≡ None → (author : ℕ) (h : Lent) (g : Lcg) → IsAt self.old.pass.now self.old.pass.ghost_name author h g
-            → IsServed (lent_call N.limits) author (IsAt self.new.pass.now self.new.pass.ghost_name) (λ o. o ≡ outcome.OutOfMemory) g h message.now }
+            → IsServed (lent_call N.limits) author (IsAt self.new.pass.now self.new.pass.ghost_name author) (λ o. o ≡ outcome.OutOfMemory) g h message.now }
         ensures scores { IfOk result HasScores }
     {
         let request = read_request(self.alloc, message)?;
