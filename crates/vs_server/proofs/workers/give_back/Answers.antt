@@ -1,0 +1,37 @@
+use Rattle.std.proofs.Common.{◌≡◌, ℕ, ◌+◌, ◌-◌, ◌<◌, [], length, ap, sym, ◌∙◌, subst, arith, sum_by, ◌≤◌}
+use Rattle.std.proofs.lemmas.List.Sums.{sum_by_push}
+use Rattle.vs_tickets.specs.Rule.{share}
+use Rattle.vs_server.specs.declared.worker.Worker.{Worker}
+use Rattle.vs_server.proofs.Sums.{all_pop, length_pop, joined, parted_left, met_more}
+use Rattle.vs_server.proofs.workers.give_back.Goals as goal
+
+pub loop-listener-preserved : goal.loop-listener-preserved
+loop-listener-preserved g c =
+    let i = c.loop-listener.invariant in
+    let h = c.in-Some.field-0 in
+    let items = c.in-Some.ensures.items in
+    let both = all_pop (λ (w : Worker g.row.L.Denot g.row.L-Input.Denot g.row.L-Output.Denot). (w.ticket.table_id ≡ c.args.word.now.shared.table_id) × (w.ticket.me ≡ (share 1 w.ticket.me.0.below w.ticket.me.0.past c.args.limit, []))) _ _ h items i.2 in
+    let n = length c.pop.new.self.items in
+    let long : length c.loop-listener.hands.items ≡ n + 1 = length_pop _ _ h items in
+    let small : n + 1 < 4294967296 = subst (λ (k : ℕ). k < 4294967296) long i.1 in
+    let was = i.3 ∙ ap (λ (k : ℕ). (share (4294967296 - k) c.loop-listener.all.me.0.below c.loop-listener.all.me.0.past c.args.limit, [])) long in
+    let now = joined n c.args.limit c.loop-listener.all.me h.ticket.me c.gather.new.mine.me small was both.1.1 c.gather.ensures.1 in
+    let served = now.1 in
+    let overs = now.2 in
+    let served_all = i.4 in
+    let overs_all = i.5 in
+    let served_cut = ap (λ l. sum_by (λ (w : Worker g.row.L.Denot g.row.L-Input.Denot g.row.L-Output.Denot). w.ticket.me.0.below) l) items ∙ sum_by_push (λ (w : Worker g.row.L.Denot g.row.L-Input.Denot g.row.L-Output.Denot). w.ticket.me.0.below) c.pop.new.self.items h in
+    let overs_cut = ap (λ l. sum_by (λ (w : Worker g.row.L.Denot g.row.L-Input.Denot g.row.L-Output.Denot). w.ticket.me.0.past) l) items ∙ sum_by_push (λ (w : Worker g.row.L.Denot g.row.L-Input.Denot g.row.L-Output.Denot). w.ticket.me.0.past) c.pop.new.self.items h in
+    let room = i.6 in
+    let p = c.push_reserved.ensures in
+    let more = length_pop _ _ _ p.items in (
+      c.gather.ensures.0 ∙ i.0,
+      omega arith,
+      both.0,
+      now.0,
+      omega arith,
+      omega arith,
+      subst (λ (k : ℕ). length c.push_reserved.new.self.items + n ≤ k) (sym p.capacity) (omega arith),
+      parted_left _ _ _ _ _ _ h i.7 items p.items,
+      met_more _ _ _ _ h _ _ i.8 items c.met.ensures.pass c.met.ensures.last,
+    )
