@@ -28,7 +28,7 @@ use Rattle.vs_session.proofs.Passing.{long_call, short_call}
 use Rattle.vs_session.proofs.Serving.{not_read}
 
 module _ (limits : Limits) where
-  Serving : Knower → ℕ → Outcome → ℕ → Lcg → Lent → Message → Type 0
+  abbrev pub Serving : Knower → ℕ → Outcome → ℕ → Lcg → Lent → Message → Type 0
   Serving pass loan o k g h message = IsServed (lent_call limits) k (IsAt pass loan k) (λ p. p ≡ o) g h message
 
   -- a message that was refused, or for whose reading there was no memory

@@ -3,6 +3,7 @@ use Rattle.std.proofs.Common.{◌≡◌, ◌≢◌, ◌⊎◌, ℕ, ◌≤◌, i
 use Rattle.std.specs.Prelude.{IfSome}
 use Rattle.vs_defs.specs.Answers.{Answers, FindsOf}
 use Rattle.vs_defs.specs.Memory.{needs_no_memory}
+use Rattle.vs_defs.specs.Read.{draws}
 use Rattle.vs_defs.specs.Reply.{Outcome}
 use Rattle.vs_defs.specs.Reply as outcome
 use Rattle.vs_defs.specs.Request as request
@@ -12,6 +13,8 @@ use Rattle.vs_defs.specs.Step.{Step}
 use Rattle.vs_defs.specs.Store.{Store, Set, Limits, set_of, plain, empty_store}
 use Rattle.vs_defs.specs.History.{Entry, Preparation, LegalAfter, own}
 use Rattle.vs_defs.specs.History as history
+use Rattle.vs_session_defs.specs.Words.{drawn, after_draws}
+use Rattle.vs_pass.specs.Knower.{Knower}
 use Rattle.vs_thread_defs.specs.Core as core
 use Rattle.vs_thread_defs.specs.Core.{DraftedAt}
 use Rattle.vs_thread_defs.specs.Machine.{GraphHistory, GraphLegal, GraphCall, Follows, store_of, store_at}
@@ -19,12 +22,15 @@ use Rattle.vs_thread_defs.specs.Passes.{Watches, CommitCall}
 use Rattle.vs_command.specs.declared.answer.Answer.{Answer}
 use Rattle.vs_command.specs.declared.refusal.Refusal.{Refusal}
 use Rattle.vs_command.specs.Answers.{answer_of}
-use Rattle.vs_command.specs.Outcomes.{outcome_of}
+use Rattle.vs_command.specs.declared.refusal.Refusal.TheVariants.{NoMemory}
+use Rattle.vs_command.specs.Outcomes.{outcome_of, refused_by}
+use Rattle.vs_command.specs.Refusals.{refusal_of}
 use Rattle.vs_reply.specs.Replies.{short_of}
 use Rattle.vs_history.proofs.Beginnings.{prefix_self, prefix_trans, prefix_length}
 use Rattle.vs_pass.proofs.Tasks.{at_the_end}
 use Rattle.vs_store.specs.Drafts.{IsPrepared}
 use Rattle.vs_shared.specs.Calls.{HasCas, LooksUnrefused, IsReadyAfter}
+use Rattle.vs_session.specs.Shared.{CallsShared}
 use Rattle.vs_session.proofs.Changes.{step_is_short, brief_is_short}
 
 -- ---- the last change of a legal history
@@ -61,6 +67,27 @@ module _ (limits : Limits) (k : ℕ) where
 
   pub starved : (s : GraphHistory) (r : Request) (words : List ℕ) → GraphLegal limits s → GraphCall limits k s r words outcome.OutOfMemory s
   starved s r words legal = record { goes_on = prefix_self s; legal_before = legal; legal = legal; outcome_is = refl }
+
+  -- there was no memory for the words, or for a slot
+  pub unworded : (old new : Knower) (r : Request) (e : Refusal) → e ≡ NoMemory → 1 ≤ draws r → new.number ≡ old.number → new.seen ≡ old.seen → new.stream ≡ old.stream
+      → GraphCall limits new.number new.seen r (drawn (draws r) old.stream) outcome.OutOfMemory new.seen → CallsShared limits old r (refused_by (refusal_of e)) new
+  unworded old new r e no some number seen stream call = record {
+    call = subst (λ (x : Refusal). GraphCall limits old.number old.seen r (drawn (draws r) old.stream) (refused_by (refusal_of x)) new.seen) (sym no)
+        (subst (λ (n : ℕ). GraphCall limits n old.seen r (drawn (draws r) old.stream) outcome.OutOfMemory new.seen) number
+        (subst (λ (h : GraphHistory). GraphCall limits new.number h r (drawn (draws r) old.stream) outcome.OutOfMemory new.seen) seen call));
+    stream = inr (record { some = some; outcome_is = ap (λ (x : Refusal). refused_by (refusal_of x)) no; seen = seen; stream = stream });
+    number = number;
+  }
+
+  pub unslotted : (old new : Knower) (r : Request) (e : Refusal) → e ≡ NoMemory → new.number ≡ old.number → new.seen ≡ old.seen → new.stream ≡ after_draws (draws r) old.stream
+      → GraphCall limits new.number new.seen r (drawn (draws r) old.stream) outcome.OutOfMemory new.seen → CallsShared limits old r (refused_by (refusal_of e)) new
+  unslotted old new r e no number seen stream call = record {
+    call = subst (λ (x : Refusal). GraphCall limits old.number old.seen r (drawn (draws r) old.stream) (refused_by (refusal_of x)) new.seen) (sym no)
+        (subst (λ (n : ℕ). GraphCall limits n old.seen r (drawn (draws r) old.stream) outcome.OutOfMemory new.seen) number
+        (subst (λ (h : GraphHistory). GraphCall limits new.number h r (drawn (draws r) old.stream) outcome.OutOfMemory new.seen) seen call));
+    stream = inl stream;
+    number = number;
+  }
 
   pub watching_starved : (s t : GraphHistory) (r : Request) (words : List ℕ) → Watches limits k s t → GraphCall limits k s r words outcome.OutOfMemory t
   watching_starved s t r words w = record { goes_on = w.goes_on; legal_before = w.legal_before; legal = w.legal; outcome_is = w.mine }

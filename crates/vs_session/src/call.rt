@@ -78,18 +78,31 @@ fn is_done_at_once(request: &Request) -> bool
     }
 }
 
-// Tells the gate of a change: of every VADD that isn't refused, and of a request whose answer counts what it changed.
-fn tell_change<G: Gate>(request: &Request, answer: &Answer, gate: &G) {
-    let changed = match request {
+// Whether an answer tells of a change: that of a VADD does, and that of a request which counts what it changed.
+fn is_change(request: &Request, answer: &Answer) -> bool {
+    match request {
         Request::Vadd(_) => true,
         Request::Vrem { .. } | Request::Vsetattr { .. } | Request::Del(_) => {
             !matches!(answer, Answer::Int(0))
         }
         _ => false,
-    };
-    if changed {
-        gate.at(Place::Committed);
     }
+}
+
+// The outcome of a hold, of which the gate is told where it made a change.
+fn told<G: Gate>(
+    request: &Request,
+    outcome: Result<Answer, Refusal>,
+    gate: &G,
+) -> Result<Answer, Refusal>
+    ensures { result ≡ outcome }
+{
+    if let Ok(answer) = &outcome {
+        if is_change(request, answer) {
+            gate.at(Place::Committed);
+        }
+    }
+    outcome
 }
 
 // A request in one hold.
@@ -111,11 +124,7 @@ fn call_at_once<N: TableName, R: Wait, G: Gate>(
     ensures number { pass.new.number ≡ pass.old.number }
     ensures stream { pass.new.stream ≡ pass.old.stream }
 {
-    let outcome = shared.now(rt, pass, request, words, slot);
-    if let Ok(answer) = &outcome {
-        tell_change(request, answer, gate);
-    }
-    outcome
+    told(request, shared.now(rt, pass, request, words, slot), gate)
 }
 
 // Answers a search in the set at its look. The steps that are counted are nobody's.
@@ -178,18 +187,20 @@ fn call_addition<N: TableName, R: Wait, G: Gate>(
     ensures number { pass.new.number ≡ pass.old.number }
     ensures stream { pass.new.stream ≡ pass.old.stream }
 {
-    let drafting = match shared.draft(rt, pass, request, word, slot)? {
-        Begun::Drafted(drafting) => drafting,
-        Begun::Done(answer) => {
-            tell_change(request, &answer, gate);
-            return Ok(answer);
-        }
+    let drafting = match shared.draft(rt, pass, request, word, slot) {
+        Ok(Begun::Drafted(drafting)) => drafting,
+        Ok(Begun::Done(answer)) => return told(request, Ok(answer), gate),
+        Err(refusal) => return Err(refusal),
     };
     gate.at(Place::Drafted);
-    let ready = prepare::<Brand>(drafting, slot, Blank::new(1))?;
-    let answer = shared.commit(rt, pass, request, word, ready, slot)?;
-    tell_change(request, &answer, gate);
-    Ok(answer)
+    let Ok(ready) = prepare::<Brand>(drafting, slot, Blank::new(1)) else {
+        return Err(Refusal::NoMemory);
+    };
+    told(
+        request,
+        shared.commit(rt, pass, request, word, ready, slot),
+        gate,
+    )
 }
 
 // A request with its drawn words, in a slot.
