@@ -90,11 +90,11 @@ joined n limit old other new small is was e =
     let knows : old.0.limit ≡ limit = ap (λ (m : Me ℕ View). m.0.limit) is in
     let rest : old.1 ≡ [] = ap (λ (m : Me ℕ View). m.1) is in (
       e
-      ∙ ap (λ (r : List _). (gathered old.0 other.0, r)) rest
-      ∙ ap (λ (p : ℕ). (share p (old.0.below + other.0.below) (old.0.past + other.0.past) old.0.limit, [])) parts
-      ∙ ap (λ (l : ℕ). (share (4294967296 - n) (old.0.below + other.0.below) (old.0.past + other.0.past) l, [])) knows
-      ∙ ap (λ (k : ℕ). (share (4294967296 - n) k (old.0.past + other.0.past) limit, [])) (sym served)
-      ∙ ap (λ (k : ℕ). (share (4294967296 - n) new.0.below k limit, [])) (sym overs),
+          ∙ ap (λ (r : List _). (gathered old.0 other.0, r)) rest
+          ∙ ap (λ (p : ℕ). (share p (old.0.below + other.0.below) (old.0.past + other.0.past) old.0.limit, [])) parts
+          ∙ ap (λ (l : ℕ). (share (4294967296 - n) (old.0.below + other.0.below) (old.0.past + other.0.past) l, [])) knows
+          ∙ ap (λ (k : ℕ). (share (4294967296 - n) k (old.0.past + other.0.past) limit, [])) (sym served)
+          ∙ ap (λ (k : ℕ). (share (4294967296 - n) new.0.below k limit, [])) (sym overs),
       served,
       overs,
     )
@@ -276,10 +276,10 @@ module _ {W L X : Type 0} (lis : W → L) (me : W → Me ℕ View) (has_failed :
       let last = f 0 x (omega arith) in
       let long = length_back lis xs in
       served_push P (start seed) (λ t. IsPrefix t.history log) given closed 0 (number x) (seen y) (back lis xs) (back lis ys) (lis x) (lis y)
-          (all_served xs ys log n (omega arith) p.1 (λ k d l. let q = f (suc k) d (omega arith) in omega arith) (λ k d l. m (suc k) d (omega arith)))
-          (omega arith)
-          (m 0 y (omega arith))
-          (chained_from P (number x) (number y) (seen x) (start seed (number x)) (seen y) (given (lis x)) (closed (lis x)) (given (lis y)) (closed (lis y)) p.0.0 p.0.1.3)
+      (all_served xs ys log n (omega arith) p.1 (λ k d l. let q = f (suc k) d (omega arith) in omega arith) (λ k d l. m (suc k) d (omega arith)))
+      (omega arith)
+      (m 0 y (omega arith))
+      (chained_from P (number x) (number y) (seen x) (start seed (number x)) (seen y) (given (lis x)) (closed (lis x)) (given (lis y)) (closed (lis y)) p.0.0 p.0.1.3)
 
   pub ended : (olds news : List L) (hs hs' : List W) (drawn : ℕ) (log : GraphHistory) → GraphLegal limits log → length hs' ≡ length hs → AtEach (λ v w. Went lis me has_failed number seen given closed faults P limit v w) hs hs' → All (λ v. seen v ≡ start seed (number v)) hs → GoDown number (length olds) hs → back lis hs ≡ olds → news ≡ back lis hs' → sum_by (λ w. (me w).0.below) hs' ≡ min drawn limit → sum_by (λ w. (me w).0.past) hs' ≡ drawn - limit → 0 < length olds → All (λ w. IsPrefix (seen w).history log) hs' → IsEnded limits seed P given closed faults limit olds news drawn
   ended olds news hs hs' drawn log legal long went starts down is was served overs some met =

@@ -42,7 +42,9 @@ pub fn serve_links<L: Listener + Send, R: Threads + Wait + Sync, G: Gate + Sync>
     ensures served { IsServed usual_limits seed (λ k s a b t. Serves (λ i. L.Input.left i) (λ i. L.Input.faults i) (λ o. L.Output.written o) (λ o. L.Output.faults o) usual_limits k s a b t) (λ v. L.given v) (λ v. L.closed v) listeners.old.items listeners.new.items }
 {
     match Opened::new(alloc, Limits::usual()) {
-        Ok(opened) => serve_named::<Brand, L, R, G>(rt, alloc, opened, seed, limit, listeners, gate),
+        Ok(opened) => serve_named::<Brand, L, R, G>(
+            rt, alloc, opened, seed, limit, listeners, gate,
+        ),
         Err(_) => ServeEnd::NoMemory,
     }
 }

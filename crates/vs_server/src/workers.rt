@@ -22,7 +22,12 @@ use vs_shared::Shared;
 use vs_tickets::{TicketSeat, TicketWord, deal, gather, learn};
 
 // Runs all workers, each in a thread of its own.
-fn run_all<N: TableName + Send + Sync, L: Listener + Send, R: Threads + Wait + Sync, G: Gate + Sync>(
+fn run_all<
+    N: TableName + Send + Sync,
+    L: Listener + Send,
+    R: Threads + Wait + Sync,
+    G: Gate + Sync,
+>(
     rt: &R,
     alloc: Global,
     shared: &Shared<N>,
@@ -161,7 +166,12 @@ fn end_last<N: TableName, R: Wait>(rt: &R, shared: &Shared<N>, last: Option<Pass
 }
 
 /// Deals, runs, and gives the listeners back. Says how many tickets were drawn.
-pub(crate) fn work<N: TableName + Send + Sync, L: Listener + Send, R: Threads + Wait + Sync, G: Gate + Sync>(
+pub(crate) fn work<
+    N: TableName + Send + Sync,
+    L: Listener + Send,
+    R: Threads + Wait + Sync,
+    G: Gate + Sync,
+>(
     rt: &R,
     alloc: Global,
     shared: &Shared<N>,

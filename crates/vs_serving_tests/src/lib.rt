@@ -6,6 +6,8 @@ mod gates;
 #[cfg(test)]
 mod holding;
 #[cfg(test)]
+mod listeners;
+#[cfg(test)]
 mod many;
 #[cfg(test)]
 mod serving;

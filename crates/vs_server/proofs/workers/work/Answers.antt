@@ -24,7 +24,7 @@ give_back-drawn-requires-clause-hands g c _ _ =
     let same : length c.run_hands.new.hands ≡ length c.deal_all.new.hands.items = kept ∙ ap length value in
     let whole = lent c.deal_all.new.hands.items c.run_hands.new.hands c.deal_all.new.hands.len same c.deal_all.new.hands.ok.0 in
     subst (λ l. All (λ (w : Worker g.row.L.Denot g.row.L-Input.Denot g.row.L-Output.Denot). (w.ticket.table_id ≡ c.args.word.now.shared.table_id) × (w.ticket.me ≡ (share 1 w.ticket.me.0.below w.ticket.me.0.past c.args.limit, []))) l) (sym whole)
-        (λ k d l. let short : k < length c.deref_mut.result.now = subst (λ (n : ℕ). k < n) kept l in let one = c.run_hands.ensures k d short in let dealt = c.deal_all.ensures.hands.1 k d (subst (λ (n : ℕ). k < n) (ap length value) short) in (one.0 ∙ ap (λ l. (slice_index_or l k d).ticket.table_id) value ∙ dealt.0, seated _ _ _ _ _ one.1))
+    (λ k d l. let short : k < length c.deref_mut.result.now = subst (λ (n : ℕ). k < n) kept l in let one = c.run_hands.ensures k d short in let dealt = c.deal_all.ensures.hands.1 k d (subst (λ (n : ℕ). k < n) (ap length value) short) in (one.0 ∙ ap (λ l. (slice_index_or l k d).ticket.table_id) value ∙ dealt.0, seated _ _ _ _ _ one.1))
 
 pub give_back-drawn-requires-clause-all : goal.give_back-drawn-requires-clause-all
 give_back-drawn-requires-clause-all g c _ _ =
@@ -58,6 +58,6 @@ returns g c =
     let whole = lent c.deal_all.new.hands.items c.run_hands.new.hands c.deal_all.new.hands.len same c.deal_all.new.hands.ok.0 in
     let went = Went (λ (h : Worker g.row.L.Denot g.row.L-Input.Denot g.row.L-Output.Denot). h.listener) (λ (h : Worker g.row.L.Denot g.row.L-Input.Denot g.row.L-Output.Denot). h.ticket.me) (λ (h : Worker g.row.L.Denot g.row.L-Input.Denot g.row.L-Output.Denot). h.has_failed) (λ (h : Worker g.row.L.Denot g.row.L-Input.Denot g.row.L-Output.Denot). h.pass.number) (λ (h : Worker g.row.L.Denot g.row.L-Input.Denot g.row.L-Output.Denot). state_of h.pass) (λ v. g.L.Listener.given v) (λ v. g.L.Listener.closed v) (λ v. g.L.Listener.faults v) (λ k s a b t. Session k s (g.L.Input.Source.faults a.0) (g.L.Input.Source.faults b.0) (g.L.Output.Sink.faults a.1) (g.L.Output.Sink.faults b.1) t) c.args.limit in
     ended (λ (h : Worker g.row.L.Denot g.row.L-Input.Denot g.row.L-Output.Denot). h.listener) (λ (h : Worker g.row.L.Denot g.row.L-Input.Denot g.row.L-Output.Denot). h.ticket.me) (λ (h : Worker g.row.L.Denot g.row.L-Input.Denot g.row.L-Output.Denot). h.has_failed) (λ (h : Worker g.row.L.Denot g.row.L-Input.Denot g.row.L-Output.Denot). h.pass.number) (λ (h : Worker g.row.L.Denot g.row.L-Input.Denot g.row.L-Output.Denot). state_of h.pass) (λ v. g.L.Listener.given v) (λ v. g.L.Listener.closed v) (λ v. g.L.Listener.faults v) (λ k s a b t. Session k s (g.L.Input.Source.faults a.0) (g.L.Input.Source.faults b.0) (g.L.Output.Sink.faults a.1) (g.L.Output.Sink.faults b.1) t) c.args.limit
-        c.args.listeners.now.items c.give_back-drawn.new.listeners.items c.deal_all.new.hands.items _ c.give_back-drawn.result.0 (seen_by c.give_back-drawn.result.1) (ap length whole ∙ same)
-        (subst (λ l. AtEach went c.deal_all.new.hands.items l) (sym whole) (subst (λ l. AtEach went l c.run_hands.new.hands) value (λ i d l. let one = c.run_hands.ensures i d l in (one.1, one.2, one.3, one.4))))
-        c.deal_all.ensures.hands.2 c.deal_all.ensures.hands.3 c.deal_all.ensures.hands.0 c.give_back-drawn.ensures.listeners c.give_back-drawn.ensures.served c.give_back-drawn.ensures.overs c.requires.some.0 c.give_back-drawn.ensures.met
+    c.args.listeners.now.items c.give_back-drawn.new.listeners.items c.deal_all.new.hands.items _ c.give_back-drawn.result.0 (seen_by c.give_back-drawn.result.1) (ap length whole ∙ same)
+    (subst (λ l. AtEach went c.deal_all.new.hands.items l) (sym whole) (subst (λ l. AtEach went l c.run_hands.new.hands) value (λ i d l. let one = c.run_hands.ensures i d l in (one.1, one.2, one.3, one.4))))
+    c.deal_all.ensures.hands.2 c.deal_all.ensures.hands.3 c.deal_all.ensures.hands.0 c.give_back-drawn.ensures.listeners c.give_back-drawn.ensures.served c.give_back-drawn.ensures.overs c.requires.some.0 c.give_back-drawn.ensures.met
