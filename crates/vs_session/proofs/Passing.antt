@@ -18,7 +18,7 @@ use Rattle.vs_pass.specs.Knower.{Knower}
 use Rattle.vs_thread_defs.specs.Core as core
 use Rattle.vs_thread_defs.specs.Core.{DraftedAt}
 use Rattle.vs_thread_defs.specs.Machine.{GraphHistory, GraphLegal, GraphCall, Follows, store_of, store_at}
-use Rattle.vs_thread_defs.specs.Passes.{Watches, CommitCall}
+use Rattle.vs_thread_defs.specs.Passes.{Watches, CommitCall, DoneAtOnce}
 use Rattle.vs_command.specs.declared.answer.Answer.{Answer}
 use Rattle.vs_command.specs.declared.refusal.Refusal.{Refusal}
 use Rattle.vs_command.specs.Answers.{answer_of}
@@ -71,18 +71,18 @@ module _ (limits : Limits) (k : ℕ) where
   -- there was no memory for the words, or for a slot
   pub unworded : (old new : Knower) (r : Request) (e : Refusal) → e ≡ NoMemory → 1 ≤ draws r → new.number ≡ old.number → new.seen ≡ old.seen → new.stream ≡ old.stream
       → GraphCall limits new.number new.seen r (drawn (draws r) old.stream) outcome.OutOfMemory new.seen → CallsShared limits old r (refused_by (refusal_of e)) new
-  unworded old new r e no some number seen stream call = record {
-    call = subst (λ (x : Refusal). GraphCall limits old.number old.seen r (drawn (draws r) old.stream) (refused_by (refusal_of x)) new.seen) (sym no)
+  unworded old new r e want some number seen stream call = record {
+    call = subst (λ (x : Refusal). GraphCall limits old.number old.seen r (drawn (draws r) old.stream) (refused_by (refusal_of x)) new.seen) (sym want)
         (subst (λ (n : ℕ). GraphCall limits n old.seen r (drawn (draws r) old.stream) outcome.OutOfMemory new.seen) number
         (subst (λ (h : GraphHistory). GraphCall limits new.number h r (drawn (draws r) old.stream) outcome.OutOfMemory new.seen) seen call));
-    stream = inr (record { some = some; outcome_is = ap (λ (x : Refusal). refused_by (refusal_of x)) no; seen = seen; stream = stream });
+    stream = inr (record { some = some; outcome_is = ap (λ (x : Refusal). refused_by (refusal_of x)) want; seen = seen; stream = stream });
     number = number;
   }
 
   pub unslotted : (old new : Knower) (r : Request) (e : Refusal) → e ≡ NoMemory → new.number ≡ old.number → new.seen ≡ old.seen → new.stream ≡ after_draws (draws r) old.stream
       → GraphCall limits new.number new.seen r (drawn (draws r) old.stream) outcome.OutOfMemory new.seen → CallsShared limits old r (refused_by (refusal_of e)) new
-  unslotted old new r e no number seen stream call = record {
-    call = subst (λ (x : Refusal). GraphCall limits old.number old.seen r (drawn (draws r) old.stream) (refused_by (refusal_of x)) new.seen) (sym no)
+  unslotted old new r e want number seen stream call = record {
+    call = subst (λ (x : Refusal). GraphCall limits old.number old.seen r (drawn (draws r) old.stream) (refused_by (refusal_of x)) new.seen) (sym want)
         (subst (λ (n : ℕ). GraphCall limits n old.seen r (drawn (draws r) old.stream) outcome.OutOfMemory new.seen) number
         (subst (λ (h : GraphHistory). GraphCall limits new.number h r (drawn (draws r) old.stream) outcome.OutOfMemory new.seen) seen call));
     stream = inl stream;
@@ -188,3 +188,18 @@ module _ (limits : Limits) (k : ℕ) where
       by_outcome (outcome.Answered a) (inr d) = inr (d.0 ∙ w.mine, d.1)
       by_outcome (outcome.Refused e) d = (d.0 ∙ w.mine, d.1)
       by_outcome outcome.OutOfMemory d = d ∙ w.mine
+
+  -- the same, of a request and a result that are told apart
+  pub committed_as : (n : ℕ) (s m t : GraphHistory) (r : Request) (add : Add) (drawn : ℕ) (p : Preparation) (result done : Result Answer Refusal) → n ≡ k → r ≡ request.Vadd add → result ≡ done → Watches limits k s m
+      → CommitCall limits n m add drawn p (outcome_of done) t → GraphCall limits k s r (drawn ∷ []) (outcome_of result) t
+  committed_as n s m t r add drawn p result done number is same w c =
+      subst (λ (q : Request). GraphCall limits k s q (drawn ∷ []) (outcome_of result) t) (sym is)
+      (subst (λ (x : Result Answer Refusal). GraphCall limits k s (request.Vadd add) (drawn ∷ []) (outcome_of x) t) (sym same)
+      (committed s m t add drawn p (outcome_of done) w (subst (λ (j : ℕ). CommitCall limits j m add drawn p (outcome_of done) t) number c)))
+
+  -- an addition that was done at once, or refused
+  pub at_once : (r : Request) (add : Add) → r ≡ request.Vadd add → (drawn : ℕ) (s t : GraphHistory) (result done : Result Answer Refusal) → result ≡ done → DoneAtOnce limits k s add drawn (outcome_of done) t
+      → GraphCall limits k s r (drawn ∷ []) (outcome_of result) t
+  at_once r add is drawn s t result done same d =
+      subst (λ (q : Request). GraphCall limits k s q (drawn ∷ []) (outcome_of result) t) (sym is)
+      (subst (λ (x : Result Answer Refusal). GraphCall limits k s (request.Vadd add) (drawn ∷ []) (outcome_of x) t) (sym same) d.now.call)
