@@ -2,9 +2,10 @@
 --     actors_seen actors      what contracts see of its actors
 --     seen_at core k          the actor of a number
 --     busy_of actor           why it can't begin something
+--     suits actor event       whether it is at what the event needs, and error_of event where it isn't
 --     IsOfMachine core        it stands for some state of the machine of interleavings, under limits within the usual ones
 --     Steps old event o new   one event: from whatever state the core stood for, to one for which it stands now
-use Rattle.std.specs.Prelude.{ℕ, zero, suc, List, map, Option, Some, None, slice_get}
+use Rattle.std.specs.Prelude.{ℕ, zero, suc, Bool, true, false, List, map, Option, Some, None, slice_get}
 use Rattle.vs_thread_defs.specs.Core as core
 use Rattle.vs_thread_defs.specs.Core.{StandsFor}
 use Rattle.vs_thread_defs.specs.Interleaving.{State, Event, Outcome, Happens}
@@ -35,3 +36,38 @@ IsOfMachine c = (s : State) × StandsFor c.store.limits c s
 
 abbrev pub Steps : core.Core → Event → Outcome → core.Core → Type 0
 Steps old e o new = (s : State) → StandsFor old.store.limits old s → (t : State) × Happens old.store.limits s e o t × StandsFor old.store.limits new t
+
+-- ---- what an event needs
+
+abbrev pub is_idle : core.Seen → Bool
+is_idle core.Idle = true
+is_idle x = false
+
+abbrev pub is_looking : core.Seen → Bool
+is_looking (core.IsLooking l) = true
+is_looking x = false
+
+abbrev pub is_drafting : core.Seen → Bool
+is_drafting (core.IsDrafting d) = true
+is_drafting x = false
+
+abbrev pub is_ready : core.Seen → Bool
+is_ready (core.IsReady r) = true
+is_ready x = false
+
+abbrev pub suits : core.Seen → Event → Bool
+suits x (machine.Do k r words) = is_idle x
+suits x (machine.Look k search) = is_idle x
+suits x (machine.Draft k add drawn) = is_idle x
+suits x (machine.Finish k) = is_looking x
+suits x (machine.Prepare k) = is_drafting x
+suits x (machine.Commit k) = is_ready x
+
+-- the error of one that is at something else
+abbrev pub error_of : Event → Outcome
+error_of (machine.Do k r words) = machine.ActorBusy
+error_of (machine.Look k search) = machine.ActorBusy
+error_of (machine.Draft k add drawn) = machine.ActorBusy
+error_of (machine.Finish k) = machine.ActorIdle
+error_of (machine.Prepare k) = machine.ActorIdle
+error_of (machine.Commit k) = machine.ActorIdle

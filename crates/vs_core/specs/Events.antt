@@ -1,7 +1,7 @@
 -- Events and what comes of them, as those of the machine of interleavings.
 --     event_of, step_outcome_of      the event, the outcome
 --     FitsEvent event                its request is within bounds, with as many words as it draws; an addition to be drafted has CAS
-use Rattle.std.specs.Prelude.{◌≡◌, ℕ, IsTrue, Option, Some, None, Result, Ok, Err, length}
+use Rattle.std.specs.Prelude.{◌≡◌, IsTrue, Option, Some, None, Result, Ok, Err, length}
 use Rattle.vs_defs.specs.Bounds.{IsInBounds, IsSearchInBounds, IsAddInBounds}
 use Rattle.vs_defs.specs.Read.{draws}
 use Rattle.vs_defs.specs.Request as request

@@ -1,4 +1,8 @@
 //! Events of actors, and what comes of them.
+ghost use Rattle.std.specs.Prelude.{◌≡◌};
+ghost use Rattle.vs_thread_defs.specs.Interleaving.{actor_of};
+ghost use Rattle.vs_core.specs.Events.{event_of};
+
 use vs_bits::Add;
 use vs_command::{Answer, Refusal, Request, Search};
 use vs_outside::List;
@@ -30,6 +34,22 @@ pub enum Event {
     Commit {
         actor: u32,
     },
+}
+
+impl Event {
+    /// The number of its actor.
+    pub fn actor(&self) -> u32
+        ensures { result ≡ actor_of (event_of self.now) }
+    {
+        match self {
+            Event::Do { actor, .. }
+            | Event::Look { actor, .. }
+            | Event::Finish { actor }
+            | Event::Draft { actor, .. }
+            | Event::Prepare { actor }
+            | Event::Commit { actor } => *actor,
+        }
+    }
 }
 
 /// What comes of a step. `Direct`: the addition can't be drafted, and is to be done at once. `Redone`: a stale commit did its request again;

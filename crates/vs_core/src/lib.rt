@@ -3,8 +3,15 @@
 #![tactic(auto)]
 
 mod actor;
+mod adding;
+mod committing;
+mod doing;
 mod event;
+mod searching;
 mod stepping;
+#[cfg(test)]
+mod tests;
+mod turn;
 
 pub use event::{Event, StepError, StepOutcome};
 pub use stepping::Core;

@@ -1,5 +1,5 @@
 //! The store with its actors, and the events.
-ghost use Rattle.std.specs.Prelude.{◌≡◌, ◌∷◌, List, Option, map, replicate, option_map, All, IfOk, OnErr};
+ghost use Rattle.std.specs.Prelude.{◌≡◌, ◌<◌, ◌+◌, List, None, length, map, replicate, option_map, All, IfOk, IfSome, OnErr};
 ghost use Rattle.vs_defs.specs.Store.{empty_store};
 ghost use Rattle.vs_thread_defs.specs.Core.{StandsFor, Idle};
 ghost use Rattle.vs_thread_defs.specs.Interleaving.{State, Run};
@@ -9,10 +9,10 @@ ghost use Rattle.vs_store.specs.Kept.{AreUsual};
 ghost use Rattle.vs_store.specs.Seen.{limits_seen};
 
 use crate::actor::Actor;
+use crate::turn::take_turn;
 use crate::{Event, StepError, StepOutcome};
-use std::alloc::{AllocError, Global};
+use std::alloc::Global;
 use std::marker::Model;
-use vs_command::Refusal;
 use vs_outside::{List, NoMemory};
 use vs_slot::Slot;
 use vs_store::{Limits, Store};
@@ -43,20 +43,42 @@ impl Core {
         requires { AreUsual (limits_seen limits) }
         ensures { IfOk result (λ c. c ≡ record { store = empty_store (limits_seen limits); actors = replicate actors Idle }) }
     {
-        Err(AllocError)
+        let mut all = Vec::with_capacity(alloc, actors as usize)?;
+        for _ in 0..actors {
+            all.push_reserved(Actor::Idle);
+        }
+        Ok(Core {
+            alloc,
+            store: Store::new(alloc, limits),
+            slot: Slot::new(alloc),
+            actors: all,
+        })
+    }
+
+    // The place of an actor among all.
+    fn place_of(&self, actor: u32) -> Option<usize>
+        ensures absent { result ≡ None → seen_at self.now actor ≡ None }
+        ensures present { IfSome result (λ place. (actor ≡ place + 1) × (place < length self.now.actors)) }
+    {
+        let place = actor.checked_sub(1)? as usize;
+        if place < self.actors.len() {
+            Some(place)
+        } else {
+            None
+        }
     }
 
     /// Why an actor can't begin something: there is none of this number, or it isn't idle.
     pub fn busy(&self, actor: u32) -> Option<StepError>
         ensures { option_map unstepped result ≡ busy_of (seen_at self.now actor) }
     {
-        let Some(place) = actor.checked_sub(1) else {
+        let Some(place) = self.place_of(actor) else {
             return Some(StepError::NoSuchActor);
         };
-        match self.actors.get(place as usize) {
-            None => Some(StepError::NoSuchActor),
-            Some(Actor::Idle) => None,
-            Some(_) => Some(StepError::ActorBusy),
+        if self.actors[place].is_idle() {
+            None
+        } else {
+            Some(StepError::ActorBusy)
         }
     }
 
@@ -67,7 +89,15 @@ impl Core {
         ensures limits { self.new.store.limits ≡ self.old.store.limits }
         ensures err { OnErr result (self.new ≡ self.old) }
     {
-        Ok(StepOutcome::Refused(Refusal::NoMemory))
+        let Some(place) = self.place_of(event.actor()) else {
+            return Err(StepError::NoSuchActor);
+        };
+        take_turn(
+            &mut self.store,
+            &mut self.slot,
+            &mut self.actors[place],
+            event,
+        )
     }
 
     /// The steps of a list of events, in order. Its list is taken first, so that want of memory for it comes before any step.
@@ -81,6 +111,10 @@ impl Core {
         ensures limits { self.new.store.limits ≡ self.old.store.limits }
         ensures err { OnErr result (self.new ≡ self.old) }
     {
-        Err(AllocError)
+        let mut outcomes = Vec::with_capacity(self.alloc, events.len())?;
+        for event in events.into_vec() {
+            outcomes.push_reserved(self.step(event));
+        }
+        Ok(List::from_vec(outcomes))
     }
 }

@@ -20,11 +20,11 @@ use Rattle.vs_session_tests.specs.Shared.{IsAfter, OthersChange}
 pub does_later : (author : ℕ) (old new : Store Set) (h : GraphHistory) (r : Request) (words : List ℕ) (o : Outcome) → author ≡ 0 → OthersChange old h → IsInBounds r → length words ≡ draws r → StoreDoes old r words o new →
     Does Call author (λ t. (author ≡ 0) × IsAfter new t) h r words o
 does_later author old new h r words o is others bounds drawn does =
-    let m = made 0 old new others.history r words o others.after.sound.legal others.after.store_is bounds drawn does in
+    let m = made 0 old new others.history r words o others.after.legal others.after.store_is bounds drawn does in
     record {
       history = m.history;
       called = subst (λ (j : ℕ). Call j h r words o m.history) (sym is) (m.closed.call h others.begins others.mine tt);
-      known = (is, record { sound = record { legal = m.closed.legal; good = m.closed.good others.after.sound.good }; store_is = sym m.closed.ends });
+      known = (is, record { legal = m.closed.legal; good = m.closed.good others.after.good; store_is = sym m.closed.ends });
     }
 
 -- ---- a change of the author 1
@@ -36,12 +36,12 @@ module _ (old new : Store Set) (h : GraphHistory) (r : Request) (words : List �
 
   pub other_changes : IsAfter old h → IsInBounds r → length words ≡ draws r → StoreDoes old r words o new → OthersChange new h
   other_changes a bounds drawn does =
-      let m = made 1 old new h r words o a.sound.legal a.store_is bounds drawn does in
+      let m = made 1 old new h r words o a.legal a.store_is bounds drawn does in
       record {
         history = m.history;
         begins = (m.closed.call h (prefix_self h) refl tt).goes_on;
         mine = none_mine m.history m.closed.grows;
-        after = record { sound = record { legal = m.closed.legal; good = m.closed.good a.sound.good }; store_is = sym m.closed.ends };
+        after = record { legal = m.closed.legal; good = m.closed.good a.good; store_is = sym m.closed.ends };
       }
 
 pub none_changes : (store : Store Set) (h : GraphHistory) → IsAfter store h → OthersChange store h

@@ -5,14 +5,10 @@ use Rattle.vs_defs.specs.History.{IsPrefix, own}
 use Rattle.vs_thread_defs.specs.Machine.{GraphHistory, IsGoodThroughout}
 use Rattle.vs_session.specs.Alone.{Legal, store_at}
 
--- a legal history, each of whose stores is good
-pub record IsSound (h : GraphHistory) : Type 0 where
+-- it is the store after this legal history, each of whose stores is good
+pub record IsAfter (store : Store Set) (h : GraphHistory) : Type 0 where
   pub legal : Legal h
   pub good : IsGoodThroughout h
-
--- it is the store after this history
-pub record IsAfter (store : Store Set) (h : GraphHistory) : Type 0 where
-  pub sound : IsSound h
   pub store_is : store_at h ≡ store
 
 -- Others than the author 0 may have changed the store.

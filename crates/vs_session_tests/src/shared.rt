@@ -5,10 +5,10 @@ ghost use Rattle.vs_defs.specs.Request as request;
 ghost use Rattle.vs_command.specs.Requests.{request_of};
 ghost use Rattle.vs_outside.specs.Known.{Adds, in_front};
 ghost use Rattle.vs_session_defs.specs.Words.{generator as generator_of};
-ghost use Rattle.vs_thread_defs.specs.Machine.{GraphHistory};
+ghost use Rattle.vs_thread_defs.specs.Machine.{GraphHistory, IsGoodThroughout};
 ghost use Rattle.vs_connection.specs.Connection.{EndsAt};
-ghost use Rattle.vs_session.specs.Alone.{Call, fresh};
-ghost use Rattle.vs_session_tests.specs.Shared.{IsAfter, IsSound, OthersChange};
+ghost use Rattle.vs_session.specs.Alone.{Call, Legal, fresh};
+ghost use Rattle.vs_session_tests.specs.Shared.{IsAfter, OthersChange};
 
 use std::alloc::Global;
 use std::test::Fail;
@@ -60,7 +60,7 @@ impl Machine for Shared {
 // One connection of the author 0.
 fn serve_shared<S: Source, K: Sink>(alloc: Global, source: &mut S, sink: &mut K) -> SessionEnd
     ensures { (input : Bytes) × (output : Bytes) × (S.left source.old ≡ in_front input (S.left source.new))
-        × Adds (K.written sink.old) output (K.written sink.new) × EndsAt Call 0 (λ h g. IsSound h) result (fresh (generator_of 7 0)) input output }
+        × Adds (K.written sink.old) output (K.written sink.new) × EndsAt Call 0 (λ h g. Legal h × IsGoodThroughout h) result (fresh (generator_of 7 0)) input output }
 {
     let shared = Shared {
         alloc,

@@ -1,7 +1,9 @@
 -- VADD: what it makes of the store, of a set that is there and at a new key.
-use Rattle.std.proofs.Common.{◌≡◌, ℕ, ◌+◌, ◌<◌, ◌≤◌, Bool, true, false, cond, List, [], ◌∷◌, ◌++◌, length, refl, sym, ap, ◌∙◌, subst, arith, length-append}
-use Rattle.std.specs.Prelude.{Option, Some, None, pos, is_some, not, option_map, MatchOption}
-use Rattle.vs_defs.specs.Bytes.{Bytes}
+use Rattle.std.proofs.Common.{◌≡◌, ℕ, ◌+◌, ◌<◌, ◌≤◌, Bool, true, false, cond, List, [], ◌∷◌, length, refl, sym, ap, ◌∙◌, subst, arith, length-append}
+use Rattle.std.specs.Prelude.{Option, Some, None, ℤ, pos, is_some, not, MatchOption}
+use Rattle.std.specs.Int.{from_bool}
+use mir.Syntax.{w64}
+use mir.Val.{to_z, of_z}
 use Rattle.vs_defs.specs.Draws.{level_of}
 use Rattle.vs_defs.specs.Good.{Good, GoodStore}
 use Rattle.vs_defs.specs.PlainStep.{added, added_to, added_member, new_set, one}
@@ -9,10 +11,11 @@ use Rattle.vs_defs.specs.Refuse.{store_refusal}
 use Rattle.vs_defs.specs.Request.{Add, Answer}
 use Rattle.vs_defs.specs.Request as request
 use Rattle.vs_defs.specs.Step.{Adds, AddsTo, IsFirstWiring}
-use Rattle.vs_defs.specs.Store.{Member, Contents, Set, Store, AnswerAlike, with_set, with_replaced, is_of_name, is_member, member_of, set_of, plain}
+use Rattle.vs_defs.specs.Store.{Member, Contents, Set, Store, PlainStore, AnswerAlike, member_count, with_set, with_replaced, is_of_name, is_member, member_of, set_of, plain}
 use Rattle.vs_thread_defs.specs.Machine.{StoreChanges}
 use Rattle.vs_set.specs.Changed.{AddsMember, WiresBy, contents_by}
 use Rattle.vs_set.specs.Kept.{one_if}
+use Rattle.vs_store.specs.Causes.{HasRoom}
 use Rattle.vs_store.specs.Places.{IsSetAt}
 use Rattle.vs_store.proofs.Changes.{plain_set, has_some, written_at, found-written, wirings-written, alike-written, keys-written, good-written, put_last, found-put, wirings-put, alike-put, keys-put, good-put}
 
@@ -54,6 +57,28 @@ answer_to is_new = cond is_new one (request.Int (pos 0))
 answers : (add : Add) (level cut : ℕ) (x : Contents) (o : Option Member) → answer_to (not (is_some o)) ≡ (added_to add level cut x o).1
 answers add level cut x None = refl
 answers add level cut x (Some old) = refl
+
+pub answered : (z : ℤ) (b c : Bool) → z ≡ pos (from_bool b) → b ≡ c → request.Int (to_z w64 (of_z w64 z)) ≡ answer_to c
+answered z b c is same = ap (λ n. request.Int (to_z w64 (of_z w64 n))) is ∙ by_bool b ∙ ap answer_to same
+  where
+    by_bool : (b : Bool) → request.Int (to_z w64 (of_z w64 (pos (from_bool b)))) ≡ answer_to b
+    by_bool true = refl
+    by_bool false = refl
+
+pub one_more : (n : ℕ) (b c : Bool) → n ≡ from_bool b → b ≡ c → n ≡ one_if c
+one_more n b c is same = is ∙ by_bool b ∙ ap one_if same
+  where
+    by_bool : (b : Bool) → from_bool b ≡ one_if b
+    by_bool true = refl
+    by_bool false = refl
+
+-- ---- the limits
+
+-- a new member has room, and a replaced one takes none
+pub within : (s : PlainStore) (n members : ℕ) (b : Bool) → (b ≡ false → HasRoom s n) → member_count s ≡ members → n ≤ s.limits.set → members ≤ s.limits.all
+    → (n + one_if (not b) ≤ s.limits.set) × (members + one_if (not b) ≤ s.limits.all)
+within s n members true room counted set all = (omega (arith, set), omega (arith, all))
+within s n members false room counted set all = let free = room refl in (omega (arith, free.set), omega (arith, free.all, counted))
 
 -- ---- the store
 

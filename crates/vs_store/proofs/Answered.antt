@@ -1,38 +1,30 @@
 -- Requests that are answered from the set of their key.
-use Rattle.std.proofs.Common.{◌≡◌, ℕ, ◌<◌, Bool, true, false, cond, List, [], ◌∷◌, length, map, refl, sym, ap, ◌∙◌, subst, inl, inr}
-use Rattle.std.specs.Prelude.{Result, Ok, Err, Option, Some, None, All, IfSome, IfOk, IfErr, MatchBool, option_map, unwrap_or, is_some}
+use Rattle.std.proofs.Common.{◌≡◌, ℕ, ◌<◌, Bool, true, false, List, [], length, refl, sym, ap, ◌∙◌, subst, inr}
+use Rattle.std.specs.Prelude.{ℤ, Result, Ok, Err, Option, Some, None, IfSome, IfOk, IfErr, MatchBool, option_map}
 use Rattle.std.specs.Option.{option_or}
-use Rattle.std.proofs.lemmas.List.Elements.{All-tail}
-use Rattle.vs_defs.specs.Answers.{FindsOf, Finds, Answers, IsAnswer, links_answer, info_answer}
-use Rattle.vs_defs.specs.Bytes.{Bytes, same_name}
-use Rattle.vs_defs.specs.PlainAnswer.{at_set, at_member, no_hits, truth_hits, random_of}
+use Rattle.vs_defs.specs.Answers.{FindsOf, IsAnswer}
+use Rattle.vs_defs.specs.Bytes.{Bytes}
+use Rattle.vs_defs.specs.Good.{GoodStore}
+use Rattle.vs_defs.specs.PlainAnswer.{at_set, at_member, bulk_or_null, no_hits, no_random, random_of}
 use Rattle.vs_defs.specs.Refuse.{store_refusal, search_refusal, is_change}
 use Rattle.vs_defs.specs.Reply as outcome
 use Rattle.vs_defs.specs.Request as request
 use Rattle.vs_defs.specs.Request.{Request, Search, Refusal}
-use Rattle.vs_defs.specs.Store.{Member, Contents, Set, Store, lookup_set, set_of, member_of, plain}
+use Rattle.vs_defs.specs.Store.{Set, Store, set_of, plain}
 use Rattle.vs_thread_defs.specs.Machine.{StoreDoes}
 use Rattle.vs_command.specs.Answers.{answer_of}
 use Rattle.vs_command.specs.Outcomes.{outcome_of, refused_by}
 use Rattle.vs_command.specs.Refusals.{refusal_of}
-use Rattle.vs_command.specs.Scores.{HasScores}
 use Rattle.vs_command.specs.declared.answer.Answer.{Answer}
-use Rattle.vs_command.specs.declared.answer.Answer.TheVariants.{Int, Pong, Bye, Bulk, NullText, NullList, Names, Signs, Hits, Layers, Info as Informed}
 use Rattle.vs_command.specs.declared.refusal.Refusal.{Refusal as Cause}
+use Rattle.vs_store.proofs.Changes.{plain_set}
+use Rattle.vs_store.proofs.Taken.{of_set}
 
 -- ---- the set of a key
 
-pub plain_set : (key : Bytes) (sets : List (Bytes × Set)) → lookup_set key (map (λ e. (e.0, e.1.contents)) sets) ≡ option_map (λ x. x.contents) (lookup_set key sets)
-plain_set key [] = refl
-plain_set key (e ∷ es) = by (same_name key e.0)
-  where
-    by : (b : Bool) → cond b (Some e.1.contents) (lookup_set key (map (λ f. (f.0, f.1.contents)) es)) ≡ option_map (λ x. x.contents) (cond b (Some e.1) (lookup_set key es))
-    by true = refl
-    by false = plain_set key es
-
 -- the contents of the set of a key
 pub contents_at : (key : Bytes) (s : Store Set) (o : Option Set) → o ≡ set_of key s → set_of key (plain s) ≡ option_map (λ x. x.contents) o
-contents_at key s o is = plain_set key s.sets ∙ ap (option_map (λ x. x.contents)) (sym is)
+contents_at key s o is = plain_set s key o (sym is)
 
 -- ---- answers
 
@@ -69,27 +61,23 @@ searches s search x (Err e) is found free refused = by (refusal_of e) refused
     by None h = refl
     by (Some cause) h = (refl, search_free s search (Some x) is ∙ ap (λ o. option_or o None) h)
 
--- ---- answers without hits
+-- ---- what is answered of a member, or of the members
 
--- an answer in which no hit stands
-abbrev pub IsUnscored : request.Answer → Type 0
-IsUnscored (request.Hits dim scores attrs hits) = ⊥
-IsUnscored (request.Layers dim scores layers) = ⊥
-IsUnscored a = Unit {0}
+-- the set of the key has members
+pub has_members : {s t : Store Set} → s ≡ t → GoodStore s → (key : Bytes) (x : Set) → Some x ≡ set_of key t → 0 < length x.contents.members
+has_members {s} {t} view good key x is = of_set (λ y. 0 < length y.contents.members) key s.sets x good.filled (ap (set_of key) view ∙ sym is)
 
-pub unscored : (a : Answer) (m : request.Answer) → answer_of a ≡ m → IsUnscored m → HasScores a
-unscored (Int n) m is h = tt
-unscored Pong m is h = tt
-unscored Bye m is h = tt
-unscored (Bulk text) m is h = tt
-unscored NullText m is h = tt
-unscored NullList m is h = tt
-unscored (Names names) m is h = tt
-unscored (Signs signs) m is h = tt
-unscored (Hits dim scores attrs hits) m is h = absurd (subst IsUnscored (sym is) h)
-unscored (Layers dim scores layers) m is h = absurd (subst IsUnscored (sym is) h)
-unscored (Informed info) m is h = tt
+module _ (s : Store Set) (key : Bytes) (o : Option Set) (is : o ≡ set_of key s) where
+  pub embeds : (name : Bytes) (a : request.Answer) → a ≡ at_member (option_map (λ x. x.contents) o) name request.NullList (λ y. request.Signs y.bits) → StoreDoes s (request.Vemb key name) [] (outcome.Answered a) s
+  embeds name a h =
+      answers s (request.Vemb key name) [] a refl refl (ap (λ p. Some (at_member p name request.NullList (λ y. request.Signs y.bits))) (contents_at key s o is) ∙ ap Some (sym h))
 
-pub member_unscored : (o : Option Member) (absent : request.Answer) (f : Member → request.Answer) → IsUnscored absent → ((y : Member) → IsUnscored (f y)) → IsUnscored (unwrap_or (option_map f o) absent)
-member_unscored None absent f h all = h
-member_unscored (Some y) absent f h all = all y
+  pub gives_attribute : (name : Bytes) (a : request.Answer) → a ≡ at_member (option_map (λ x. x.contents) o) name request.NullText (λ y. bulk_or_null y.attr)
+      → StoreDoes s (request.Vgetattr key name) [] (outcome.Answered a) s
+  gives_attribute name a h =
+      answers s (request.Vgetattr key name) [] a refl refl (ap (λ p. Some (at_member p name request.NullText (λ y. bulk_or_null y.attr))) (contents_at key s o is) ∙ ap Some (sym h))
+
+  pub picks_members : (count : Option ℤ) (words : List ℕ) (a : request.Answer) → a ≡ at_set (option_map (λ x. x.contents) o) (no_random count) (random_of count words)
+      → StoreDoes s (request.Vrandmember key count) words (outcome.Answered a) s
+  picks_members count words a h =
+      answers s (request.Vrandmember key count) words a refl refl (ap (λ p. Some (at_set p (no_random count) (random_of count words))) (contents_at key s o is) ∙ ap Some (sym h))

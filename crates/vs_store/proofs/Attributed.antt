@@ -1,6 +1,7 @@
 -- VSETATTR: what it makes of the store.
 use Rattle.std.proofs.Common.{◌≡◌, ℕ, ◌+◌, ◌<◌, ◌≤◌, Bool, true, cond, List, [], length, map, refl, sym, ap, ◌∙◌, subst, arith, inl, inr}
-use Rattle.std.specs.Prelude.{◌≢◌, Option, Some, None, option_map}
+use Rattle.std.specs.Prelude.{◌≢◌, Result, Option, Some, None, option_map}
+use Rattle.std.specs.Result.{IsErrAnd}
 use Rattle.std.proofs.lemmas.Bool.{cases_Bool}
 use Rattle.std.proofs.lemmas.List.{length-map}
 use Rattle.vs_defs.specs.Bytes.{Bytes, same_name}
@@ -12,12 +13,17 @@ use Rattle.vs_defs.specs.Request as request
 use Rattle.vs_defs.specs.Step.{wiring_at}
 use Rattle.vs_defs.specs.Store.{Member, Contents, Set, Store, AnswerAlike, with_set, with_option, is_of_name, is_member, set_of, plain}
 use Rattle.vs_defs.proofs.Keys.{same_is}
-use Rattle.vs_thread_defs.specs.Machine.{StoreChanges}
+use Rattle.vs_thread_defs.specs.Machine.{StoreChanges, StoreDoes}
+use Rattle.vs_command.specs.Outcomes.{outcome_of}
+use Rattle.vs_command.specs.declared.answer.Answer.{Answer}
+use Rattle.vs_command.specs.declared.refusal.Refusal.{Refusal as Cause}
+use Rattle.vs_command.specs.declared.refusal.Refusal.TheVariants.{ChangeLimit}
 use Rattle.vs_set.specs.Changed.{attributed}
 use Rattle.vs_store.specs.Places.{IsSetAt}
 use Rattle.vs_store.proofs.Causes.{change-limited, limit-free}
 use Rattle.vs_store.proofs.Changes.{plain_set, has_some, written_at, found-written, wirings-written, alike-written, keys-written, good-written}
 use Rattle.vs_store.proofs.Edits.{apart}
+use Rattle.vs_store.proofs.Limited.{refuses-limited}
 
 pub long-attributed : (name text : Bytes) (x y : Set) → y ≡ attributed name (Some text) x → length y.contents.members ≡ length x.contents.members
 long-attributed name text x y given =
@@ -54,3 +60,9 @@ attributes s key name text p x y at good there free given fine =
       };
       good = good-written s p key x at good y n fine (omega (arith, long-attributed name text x y given, has_some s p key x at good));
     }
+
+-- a change of a member that is there is refused for the limit of changes alone
+pub refuses_attribute : (s : Store Set) (key name text : Bytes) (p : ℕ) (x : Set) → IsSetAt key p s x → is_member name x.contents.members ≡ true → (result : Result Answer Cause) (e : Cause)
+    → IsErrAnd result (λ y. y ≡ e) → (e ≡ ChangeLimit s.changes) × (s.limits.changes ≤ s.changes) → StoreDoes s (request.Vsetattr key name text) [] (outcome_of result) s
+refuses_attribute s key name text p x at there result e gives h =
+    refuses-limited s (request.Vsetattr key name text) [] result e gives h (ap (in_set name) (plain_set s key (Some x) at.of_key) ∙ there) refl

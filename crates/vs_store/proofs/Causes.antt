@@ -1,33 +1,67 @@
 -- Why a store refuses a change, or doesn't, and what follows from its answers.
-use Rattle.std.proofs.Common.{◌≡◌, ℕ, ◌+◌, ◌<◌, ◌≤◌, Bool, true, false, cond, List, [], ◌∷◌, length, refl, sym, ap, ◌∙◌, subst, arith}
-use Rattle.std.specs.Prelude.{Option, Some, None, not, ◌&&◌, nat_le, IsSomeAnd}
+use Rattle.std.proofs.Common.{◌≡◌, ℕ, ◌<◌, ◌≤◌, Bool, true, false, cond, List, [], ◌∷◌, length, refl, sym, ap, ◌∙◌, subst}
+use Rattle.std.specs.Prelude.{Result, Ok, Err, Option, Some, None, not, ◌&&◌, nat_le, IsSomeAnd, IfOk, IfErr, OnOk}
 use Rattle.std.specs.Option.{option_or}
+use Rattle.std.specs.Result.{IsErrAnd}
 use Rattle.std.proofs.lemmas.Bool.{le-leb, lt-leb}
 use Rattle.vs_defs.specs.Refuse.{first_cause, store_refusal, add_refusal, add_to_set, add_key, change_limit, is_full_all, full_all, is_change}
 use Rattle.vs_defs.specs.Request.{Request, Add, Refusal}
 use Rattle.vs_defs.specs.Request as request
 use Rattle.vs_defs.specs.Store.{Set, Contents, Store, PlainStore, set_of, plain, is_member, member_count}
 use Rattle.vs_thread_defs.specs.Machine.{StoreDoes}
-use Rattle.vs_command.specs.Outcomes.{refused_by}
-use Rattle.vs_store.specs.Causes.{misfit, no_room, limited, HasRoom, HasRoomForKey}
+use Rattle.vs_command.specs.Outcomes.{refused_by, outcome_of}
+use Rattle.vs_command.specs.Refusals.{refusal_of}
+use Rattle.vs_command.specs.declared.answer.Answer.{Answer}
+use Rattle.vs_command.specs.declared.refusal.Refusal.{Refusal as Cause}
+use Rattle.vs_command.specs.declared.refusal.Refusal.TheVariants.{ChangeLimit, NoMemory}
+use Rattle.vs_store.specs.Causes.{IsCause, misfit, no_room, limited, HasRoom, HasRoomForKey}
 
--- a cause is answered
-pub refuses : (s : Store Set) (r : Request) (words : List ℕ) (o : Option Refusal) → IsSomeAnd o (λ cause. store_refusal (plain s) r ≡ Some cause) → StoreDoes s r words (refused_by o) s
-refuses s r words None h = absurd h
-refuses s r words (Some cause) h = (refl, h)
+-- ---- what a refusal is answered
 
--- want of memory, or a cause, is answered
-pub refuses_or_wants : (s : Store Set) (r : Request) (words : List ℕ) (o : Option Refusal) → ((cause : Refusal) → o ≡ Some cause → store_refusal (plain s) r ≡ Some cause) → StoreDoes s r words (refused_by o) s
-refuses_or_wants s r words None h = refl
-refuses_or_wants s r words (Some cause) h = (refl, h cause refl)
+pub refuses : (s : Store Set) (r : Request) (words : List ℕ) (e : Cause) → IsCause e (store_refusal (plain s) r) → StoreDoes s r words (refused_by (refusal_of e)) s
+refuses s r words e h = by_cause (refusal_of e) h
+  where
+    by_cause : (o : Option Refusal) → IsSomeAnd o (λ cause. store_refusal (plain s) r ≡ Some cause) → StoreDoes s r words (refused_by o) s
+    by_cause None h = absurd h
+    by_cause (Some cause) h = (refl, h)
+
+pub gave : {A : Type 0} (r : Result A Cause) (e : Cause) → IsErrAnd r (λ y. y ≡ e) → r ≡ Err e
+gave (Ok a) e h = absurd h
+gave (Err y) e h = ap Err h
+
+-- a call with `?` hands its cause on
+pub refuses-by : (s : Store Set) (r : Request) (words : List ℕ) (result : Result Answer Cause) (e : Cause) → IsErrAnd result (λ y. y ≡ e) → IsCause e (store_refusal (plain s) r)
+    → StoreDoes s r words (outcome_of result) s
+refuses-by s r words result e h cause = subst (λ o. StoreDoes s r words (outcome_of o) s) (sym (gave result e h)) (refuses s r words e cause)
+
+-- and so it does with want of memory
+pub wants : (old new : Store Set) (r : Request) (words : List ℕ) (result : Result Answer Cause) → IsErrAnd result (λ y. y ≡ NoMemory) → new ≡ old → StoreDoes old r words (outcome_of result) new
+wants old new r words result h same = subst (λ o. StoreDoes old r words (outcome_of o) new) (sym (gave result NoMemory h)) same
+
+-- a cause of a part is a cause of the whole
+pub cause-of : (e : Cause) (x y : Option Refusal) → ((cause : Refusal) → x ≡ Some cause → y ≡ Some cause) → IsCause e x → IsCause e y
+cause-of e x y f h = by_cause (refusal_of e) h
+  where
+    by_cause : (o : Option Refusal) → IsSomeAnd o (λ cause. x ≡ Some cause) → IsSomeAnd o (λ cause. y ≡ Some cause)
+    by_cause None h = absurd h
+    by_cause (Some cause) h = f cause h
 
 -- ---- the limit of changes
 
 pub limit-reached : (s : PlainStore) → s.limits.changes ≤ s.changes → limited s ≡ Some (request.ChangeLimit s.changes)
 limit-reached s h = ap (λ b. cond b (Some (request.ChangeLimit s.changes)) None) (le-leb s.limits.changes s.changes h)
 
+-- where the limit is the one cause that is left
+pub limit-refuses : (s : PlainStore) (x : Option Refusal) (r : Result ℕ Cause) → x ≡ limited s → IfErr r (λ e. (e ≡ ChangeLimit s.changes) × (s.limits.changes ≤ s.changes)) → IfErr r (λ e. IsCause e x)
+limit-refuses s x (Ok n) alone h = tt
+limit-refuses s x (Err e) alone h = subst (λ f. IsCause f x) (sym h.0) (alone ∙ limit-reached s h.1)
+
 pub limit-free : (s : PlainStore) → s.changes < s.limits.changes → limited s ≡ None
 limit-free s h = ap (λ b. cond b (Some (request.ChangeLimit s.changes)) None) (lt-leb s.limits.changes s.changes h)
+
+pub limit-lets : (s : PlainStore) (x : Option Refusal) (n : ℕ) (r : Result ℕ Cause) → x ≡ limited s → IfOk r (λ number. (number ≡ n) × (s.changes < s.limits.changes)) → OnOk r (x ≡ None)
+limit-lets s x n (Ok number) alone h = alone ∙ limit-free s h.1
+limit-lets s x n (Err e) alone h = tt
 
 -- a change other than VADD has no other cause
 pub change-limited : (s : PlainStore) (r : Request) → is_change s r ≡ true → change_limit s r ≡ limited s

@@ -1,7 +1,7 @@
 -- A store after a change at one key: the set at a place is another, or a set of a new key was put last. The sets of the other keys stay, and
 -- the store is good and kept where the new set is.
-use Rattle.std.proofs.Common.{◌≡◌, ℕ, ◌+◌, ◌<◌, ◌≤◌, List, [], ◌∷◌, ◌++◌, length, map, refl, sym, ap, ◌∙◌, subst, arith, length-append}
-use Rattle.std.specs.Prelude.{◌≢◌, Option, Some, None, option_map, slice_get, slice_set, sum_by, All}
+use Rattle.std.proofs.Common.{◌≡◌, ℕ, ◌+◌, ◌<◌, ◌≤◌, [], ◌∷◌, ◌++◌, length, sym, ap, ◌∙◌, subst, arith, length-append}
+use Rattle.std.specs.Prelude.{◌≢◌, Option, Some, None, option_map, slice_set}
 use Rattle.std.proofs.Math.ListN.{length-set}
 use Rattle.std.proofs.lemmas.List.{map-set, map_push}
 use Rattle.std.proofs.lemmas.List.Elements.{All-set, All-push}
@@ -10,7 +10,7 @@ use Rattle.std.proofs.lemmas.Option.{get_or_from_slice_get, slice_get_within, sl
 use Rattle.vs_defs.specs.Bytes.{Bytes}
 use Rattle.vs_defs.specs.Good.{Good, GoodStore}
 use Rattle.vs_defs.specs.Step.{OthersKeep}
-use Rattle.vs_defs.specs.Store.{Contents, Set, Store, HasKeysOnce, AnswerAlike, with_set, set_of, lookup_set, plain}
+use Rattle.vs_defs.specs.Store.{Contents, Set, Store, HasKeysOnce, AnswerAlike, with_set, set_of, plain}
 use Rattle.vs_defs.proofs.Keys.{plain_at}
 use Rattle.vs_set.specs.Kept.{IsSound}
 use Rattle.vs_store.specs.Kept.{IsKept}

@@ -1,22 +1,19 @@
 -- Requests that change nothing and take no memory: what is answered of the set of a key, and where there is none.
-use Rattle.std.proofs.Common.{◌≡◌, ℕ, Bool, true, false, cond, List, [], ◌∷◌, length, refl, sym, ap, ◌∙◌, subst, pos, inr}
-use Rattle.std.specs.Prelude.{Option, Some, None, ℤ, is_some, option_map, count_by}
+use Rattle.std.proofs.Common.{◌≡◌, Bool, cond, List, [], length, refl, sym, ap, ◌∙◌, pos}
+use Rattle.std.specs.Prelude.{Some, None, ℤ, is_some, count_by}
 use Rattle.std.specs.Option.{option_or}
 use Rattle.vs_defs.specs.Answers.{Answers}
 use Rattle.vs_defs.specs.Bytes.{Bytes}
 use Rattle.vs_defs.specs.PlainAnswer.{at_set, truth_number}
-use Rattle.vs_defs.specs.Refuse.{has_key, has_member, in_set}
+use Rattle.vs_defs.specs.Refuse.{store_refusal, has_key, in_set}
 use Rattle.vs_defs.specs.Request as request
-use Rattle.vs_defs.specs.Store.{Set, Contents, Store, set_of, plain, is_member}
+use Rattle.vs_defs.specs.Store.{Set, Store, set_of, plain, is_member}
+use Rattle.vs_laws.proofs.Options.{is_some_of_map}
 use Rattle.vs_store.proofs.Changes.{plain_set}
 
 -- without links, the same keys are there
 pub has_plain : (s : Store Set) (key : Bytes) → is_some (set_of key s) ≡ has_key (plain s) key
-has_plain s key = by_option (set_of key s) (set_of key (plain s)) (plain_set s key (set_of key s) refl)
-  where
-    by_option : (o : Option Set) (p : Option Contents) → p ≡ option_map (λ x. x.contents) o → is_some o ≡ is_some p
-    by_option None p is = sym (ap is_some is)
-    by_option (Some x) p is = sym (ap is_some is)
+has_plain s key = sym (ap is_some (plain_set s key (set_of key s) refl) ∙ is_some_of_map (λ (x : Set). x.contents) (set_of key s))
 
 module _ (s : Store Set) (key : Bytes) (x : Set) (is : set_of key s ≡ Some x) where
   pub cards : (n : ℤ) → n ≡ pos (length x.contents.members) → Answers s (request.Vcard key) [] (request.Int n)
@@ -47,6 +44,9 @@ module _ (s : Store Set) (key : Bytes) (is : set_of key s ≡ None) where
     changes_nothing = refl;
     answer_is = ap (λ o. Some (at_set o (request.Int (pos 0)) (λ y. request.Int (pos (length y.members))))) (plain_set s key None is);
   }
+
+  pub no_dim : store_refusal (plain s) (request.Vdim key) ≡ Some request.NoSuchKey
+  no_dim = ap (λ o. option_or (cond (is_some o) None (Some request.NoSuchKey)) None) (plain_set s key None is)
 
   pub no_membership : (name : Bytes) → Answers s (request.Vismember key name) [] (request.Int (pos 0))
   no_membership name = record {

@@ -1,10 +1,12 @@
 -- DEL: what it makes of the store, where a key is there and where none is.
 use Rattle.std.proofs.Common.{◌≡◌, ℕ, ◌+◌, ◌<◌, ◌≤◌, Bool, true, false, cond, List, [], ◌∷◌, length, map, refl, sym, ap, ◌∙◌, subst, arith, pos}
-use Rattle.std.specs.Prelude.{Option, Some, None, IfSome, All, not, is_some, option_map, sum_by, count_by}
+use Rattle.std.specs.Result.{IsErrAnd}
+use Rattle.std.specs.Prelude.{Result, Option, Some, None, IfSome, All, not, is_some, option_map, sum_by, count_by}
 use Rattle.std.specs.List.{list_any}
 use Rattle.std.proofs.lemmas.List.Elements.{All-filter}
 use Rattle.std.proofs.lemmas.List.Filters.{length-filter_both}
 use Rattle.std.proofs.lemmas.List.Sums.{length-filter, sum_by-cons}
+use Rattle.vs_defs.specs.Answers.{Answers}
 use Rattle.vs_defs.specs.Bytes.{Bytes, listed}
 use Rattle.vs_defs.specs.Good.{Good, GoodStore}
 use Rattle.vs_defs.specs.Refuse.{store_refusal, is_change, has_key}
@@ -12,14 +14,19 @@ use Rattle.vs_defs.specs.Request as request
 use Rattle.vs_defs.specs.Step.{wiring_at}
 use Rattle.vs_defs.specs.Store.{Contents, Set, Store, Wiring, AnswerAlike, HasKeysOnce, lookup_set, without_keys, set_of, plain}
 use Rattle.vs_defs.proofs.Keys.{plain_at}
-use Rattle.vs_thread_defs.specs.Machine.{StoreChanges}
+use Rattle.vs_thread_defs.specs.Machine.{StoreChanges, StoreDoes}
+use Rattle.vs_command.specs.Outcomes.{outcome_of}
+use Rattle.vs_command.specs.declared.answer.Answer.{Answer}
+use Rattle.vs_command.specs.declared.refusal.Refusal.{Refusal as Cause}
+use Rattle.vs_command.specs.declared.refusal.Refusal.TheVariants.{ChangeLimit}
 use Rattle.vs_set.specs.Kept.{IsSound}
 use Rattle.vs_store.specs.Gone.{AreGone}
 use Rattle.vs_store.specs.Kept.{IsKept}
 use Rattle.vs_store.proofs.Causes.{change-limited, limit-free, unchanged-free}
-use Rattle.vs_store.proofs.Changes.{bare_set}
+use Rattle.vs_store.proofs.Counted.{has_plain}
 use Rattle.vs_store.proofs.Edits.{once-map}
 use Rattle.vs_store.proofs.Gone.{all_alike, lookup_without}
+use Rattle.vs_store.proofs.Limited.{refuses-limited}
 use Rattle.vs_store.proofs.Sets.{bare, members_in}
 
 -- ---- whether a key is there
@@ -27,15 +34,8 @@ use Rattle.vs_store.proofs.Sets.{bare, members_in}
 abbrev pub has : Store Set → Bytes → Bool
 has s key = is_some (set_of key s)
 
-some_mapped : {A B : Type 0} (f : A → B) (o : Option A) → is_some (option_map f o) ≡ is_some o
-some_mapped f None = refl
-some_mapped f (Some a) = refl
-
-has_plain : (s : Store Set) (key : Bytes) → has_key (plain s) key ≡ has s key
-has_plain s key = ap is_some (plain_at key s.sets) ∙ some_mapped (λ (x : Set). x.contents) (set_of key s)
-
 pub deletes_some : (s : Store Set) (keys : List Bytes) → is_change (plain s) (request.Del keys) ≡ list_any (has s) keys
-deletes_some s keys = ap (λ p. list_any p keys) (λ i key. has_plain s key i)
+deletes_some s keys = ap (λ p. list_any p keys) (λ i key. sym (has_plain s key) i)
 
 -- ---- what is left
 
@@ -65,7 +65,7 @@ few_without test sets =
     omega (arith, length-filter_both (λ (e : Bytes × Set). test e.0) (λ (e : Bytes × Set). not (test e.0)) (λ e. refl) sets, length-filter (λ (e : Bytes × Set). test e.0) sets)
 
 module _ (s : Store Set) (keys : List Bytes) (sets : List (Bytes × Set)) (gone members : ℕ) (are : AreGone keys s.sets sets gone members) (good : GoodStore s) where
-  is_gone : Bytes → Bool
+  abbrev is_gone : Bytes → Bool
   is_gone = λ key. listed key keys
 
   gone_is : gone ≡ count_by (λ (e : Bytes × Contents). is_gone e.0) (plain s).sets
@@ -94,7 +94,7 @@ module _ (s : Store Set) (keys : List Bytes) (sets : List (Bytes × Set)) (gone 
           contents = record {
             changes_something = changes;
             sets = alike_bare is_gone s.sets sets are.left;
-            keys = once-map bare_set sets are.once;
+            keys = once-map (λ (x : Set). x.contents) sets are.once;
             answers = ap (λ n. request.Int (pos n)) gone_is;
             number = refl;
             limits = refl;
@@ -116,3 +116,13 @@ module _ (s : Store Set) (keys : List Bytes) (sets : List (Bytes × Set)) (gone 
     set_within = all_left (λ (x : Set). length x.contents.members ≤ s.limits.set) kept.set_within;
     changes_within = changes;
   }
+
+-- where none is there, nothing changes
+pub deletes-none : (s : Store Set) (keys : List Bytes) → list_any (has s) keys ≡ false → Answers s (request.Del keys) [] (request.Int (pos 0))
+deletes-none s keys none =
+    let still : is_change (plain s) (request.Del keys) ≡ false = deletes_some s keys ∙ none in
+    record { unrefused = unchanged-free (plain s) (request.Del keys) still; changes_nothing = still; answer_is = refl }
+
+pub refuses-deletion : (s : Store Set) (keys : List Bytes) → list_any (has s) keys ≡ true → (result : Result Answer Cause) (e : Cause) → IsErrAnd result (λ y. y ≡ e) → (e ≡ ChangeLimit s.changes) × (s.limits.changes ≤ s.changes)
+    → StoreDoes s (request.Del keys) [] (outcome_of result) s
+refuses-deletion s keys some result e gives h = refuses-limited s (request.Del keys) [] result e gives h (deletes_some s keys ∙ some) refl

@@ -1,23 +1,31 @@
 -- Lists of sets by their keys, each key once: what is found in them after a set was written at a place, put last, or taken out by its place,
 -- and that the keys still stand once.
-use Rattle.std.proofs.Common.{◌≡◌, ℕ, ◌+◌, ◌-◌, ◌<◌, Bool, true, false, cond, List, [], ◌∷◌, ◌++◌, length, map, get_or, refl, sym, ap, ◌∙◌, subst, arith, zero, suc, inl, inr}
-use Rattle.std.specs.Prelude.{◌≢◌, Option, Some, None, not, slice_get, slice_set, All, AllPairs}
+use Rattle.std.proofs.Common.{◌≡◌, ℕ, ◌<◌, Bool, true, false, cond, List, [], ◌∷◌, ◌++◌, length, map, get_or, refl, sym, ap, ◌∙◌, subst, arith, zero, suc, inl, inr}
+use Rattle.std.specs.Prelude.{◌≢◌, Option, Some, None, slice_get, slice_set, All}
 use Rattle.std.proofs.lemmas.Bool.{cases_Bool, both_ways, false_from_ne_true}
 use Rattle.std.proofs.lemmas.List.Elements.{All-set, All-map}
 use Rattle.std.proofs.lemmas.List.Kept.{AllPairs-cons}
 use Rattle.std.proofs.lemmas.List.Quantifiers.{all_pairs_push}
 use Rattle.std.proofs.lemmas.Option.{get_or_from_slice_get, slice_get_within, same_Some, none-some}
+use Rattle.std.proofs.lemmas.Slice.Eq.{bytes_eq-Decides}
 use Rattle.vs_defs.specs.Bytes.{Bytes, same_name}
 use Rattle.vs_defs.specs.Store.{lookup_set, with_set, without_keys, AnswerAlike, HasKeysOnce}
-use Rattle.vs_defs.proofs.Keys.{same_is, same_self, other_order, kept_set}
+use Rattle.vs_defs.proofs.Keys.{same_is, kept_set}
 
 -- ---- keys
+
+pub same_self : (j k : Bytes) → j ≡ k → same_name j k ≡ true
+same_self j k e = (bytes_eq-Decides j k).1 e
 
 pub differs : (j k : Bytes) → j ≢ k → same_name j k ≡ false
 differs j k n = false_from_ne_true (same_name j k) (λ t. n (same_is j k t))
 
 pub apart : (j k : Bytes) → same_name j k ≡ false → j ≢ k
 apart j k f e = both_ways (same_name j k) f (same_self j k e)
+
+-- the order of two keys doesn't matter where they differ
+pub other_order : (j k : Bytes) → same_name j k ≡ false → same_name k j ≡ false
+other_order j k f = differs k j (λ e. apart j k f (sym e))
 
 -- what holds of each entry holds of the one at a place
 pub at-place : {A : Type 0} (P : A → Type 0) (xs : List A) (p : ℕ) (e : A) → All P xs → slice_get xs p ≡ Some e → P e

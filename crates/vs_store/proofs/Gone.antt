@@ -1,16 +1,17 @@
 -- Sets by their keys, some of which were taken out from wherever they stood, with the last in their place.
 --     popped_..      one was taken out
 --     begun, one_gone, none_gone      those of the listed keys, key by key
-use Rattle.std.proofs.Common.{◌≡◌, ℕ, zero, suc, ◌+◌, ◌<◌, ◌≤◌, Bool, true, false, cond, List, [], ◌∷◌, ◌++◌, length, map, get_or, position, refl, sym, ap, ◌∙◌, subst, arith, inl, inr, IsPermutation}
-use Rattle.std.specs.Prelude.{◌≢◌, ◌||◌, Option, Some, None, All, AllPairs, IfSome, not, is_some, slice_get, sum_by, count_by, swap_remove}
+use Rattle.std.proofs.Common.{◌≡◌, ℕ, zero, suc, ◌+◌, ◌<◌, ◌≤◌, Bool, true, false, cond, List, [], ◌∷◌, ◌++◌, length, map, get_or, position, take, refl, sym, ap, ◌∙◌, subst, arith, inl, inr, IsPermutation}
+use Rattle.std.specs.Prelude.{◌≢◌, ◌||◌, Option, Some, None, All, AllPairs, IfSome, not, is_some, option_map, slice_get, sum_by, count_by, swap_remove}
 use Rattle.std.specs.Global.{Vec}
 use Rattle.std.specs.List.{list_any, IsDistinct}
 use Rattle.std.specs.Cmp.{IsEquivalence}
 use Rattle.std.specs.Map.{lookup, keys_of, values_of}
 use Rattle.std.proofs.lemmas.Bool.{cases_Bool, both_ways}
 use Rattle.std.proofs.lemmas.Cmp.{nat_list_eq_equiv}
-use Rattle.std.proofs.lemmas.List.{get_or-map, length-map, get_or_default}
+use Rattle.std.proofs.lemmas.List.{get_or-map, length-map, get_or_default, take_more}
 use Rattle.std.proofs.lemmas.List.Folds.{list_any-append}
+use Rattle.std.proofs.lemmas.List.Kept.{AllPairs-filter}
 use Rattle.std.proofs.lemmas.List.Filters.{length-filter_both}
 use Rattle.std.proofs.lemmas.List.Quantifiers.{position-Some}
 use Rattle.std.proofs.lemmas.List.Sorted.{IsPermutation-map, IsPermutation-swap_remove, length_permutation, sum_by_popped, All-permutation}
@@ -19,15 +20,15 @@ use Rattle.std.proofs.lemmas.Map.Entries.{All-lookup}
 use Rattle.std.proofs.lemmas.Map.Keys.{IsDistinct-IsPermutation}
 use Rattle.std.proofs.lemmas.Map.Made.{IsDistinct-from_AllPairs, AllPairs-from_IsDistinct}
 use Rattle.std.proofs.lemmas.Map.Views.{All-values_from_lookup}
-use Rattle.std.proofs.lemmas.Option.{none-some, same_Some, get_or_from_slice_get, slice_get_within}
+use Rattle.std.proofs.lemmas.Option.{none-some, same_Some, get_or_from_slice_get, slice_get_within, slice_get-map}
 use Rattle.std.proofs.lemmas.Slice.Eq.{bytes_eq-Decides}
 use Rattle.indexmap.specs.IndexMap.{swap_remove_entry}
 use Rattle.indexmap.proofs.MapLemmas.{Found-position, some_index, swap_remove_entry-found, lookup_permutation}
 use Rattle.vs_defs.specs.Bytes.{Bytes, same_name, listed}
 use Rattle.vs_defs.specs.Store.{Set, lookup_set, without_keys, AnswerAlike, HasKeysOnce}
-use Rattle.vs_defs.proofs.Keys.{same_is, same_self, other_order, kept_set, gone_set}
+use Rattle.vs_defs.proofs.Keys.{same_is, kept_set, gone_set}
 use Rattle.vs_store.specs.Gone.{seen, count_in, AreGone}
-use Rattle.vs_store.proofs.Edits.{differs, once-head, once-tail}
+use Rattle.vs_store.proofs.Edits.{same_self, other_order, differs, once-head, once-tail}
 
 names_equal : IsEquivalence same_name
 names_equal = nat_list_eq_equiv
@@ -144,7 +145,7 @@ taken_by_key key x (e ∷ es) is = by (position t (keys_of all)) refl
         (subst (λ g. IsPermutation (seen all) (g ∷ seen (swap_remove all i f))) pair (IsPermutation-map (λ (g : Vec ℕ × Set). (g.0.items, g.1)) all (f ∷ swap_remove all i f) moved))
 
 -- the one at a place
-pub taken_at : (es : List (Vec ℕ × Set)) (place : ℕ) (key : Bytes) (x : Set) (e : Vec ℕ × Set) → slice_get es place ≡ Some e → slice_get (seen es) place ≡ Some (key, x)
+taken_at : (es : List (Vec ℕ × Set)) (place : ℕ) (key : Bytes) (x : Set) (e : Vec ℕ × Set) → slice_get es place ≡ Some e → slice_get (seen es) place ≡ Some (key, x)
     → IsPermutation (seen es) ((key, x) ∷ seen (swap_remove es place e))
 taken_at es place key x e at is =
     let within : place < length es = slice_get_within es place e at in
@@ -154,6 +155,13 @@ taken_at es place key x e at is =
     ∙ get_or_from_slice_get (seen es) place (key, x) (e.0.items, e.1) is in
     subst (λ g. IsPermutation (seen es) (g ∷ seen (swap_remove es place e))) pair
     (IsPermutation-map (λ (g : Vec ℕ × Set). (g.0.items, g.1)) es (e ∷ swap_remove es place e) (IsPermutation-swap_remove es place e within own))
+
+-- by what `swap_remove_index` gave
+pub taken_by_place : (es left : List (Vec ℕ × Set)) (place : ℕ) (key : Bytes) (x : Set) → slice_get (seen es) place ≡ Some (key, x) → (r : Option (Vec ℕ × Set)) → r ≡ slice_get es place
+    → IfSome r (λ e. left ≡ swap_remove es place e) → IsPermutation (seen es) ((key, x) ∷ seen left)
+taken_by_place es left place key x is None at entries =
+    absurd (none-some (key, x) (ap (option_map (λ (g : Vec ℕ × Set). (g.0.items, g.1))) at ∙ sym (slice_get-map (λ (g : Vec ℕ × Set). (g.0.items, g.1)) es place) ∙ is))
+taken_by_place es left place key x is (Some e) at entries = subst (λ l. IsPermutation (seen es) ((key, x) ∷ seen l)) (sym entries) (taken_at es place key x e (sym at) is)
 
 -- ---- how many are left
 
@@ -221,21 +229,23 @@ without_all [] = refl
 without_all (e ∷ es) = ap (λ l. e ∷ l) (without_all es)
 
 pub begun : (old : List (Bytes × Set)) → HasKeysOnce old → AreGone [] old old 0 0
-begun old once = record {
-  left = λ k. ap (lookup_set k) (sym (without_all old));
-  once = once;
-  few = omega arith;
-  sets_are = ap (λ (l : List (Bytes × Set)). length l) (without_all old);
-  members_are = refl;
-  some = λ h. absurd (omega (arith, h));
-  none = λ h. (refl, refl);
-}
+begun old once =
+    let same : length (without_keys (λ key. listed key []) old) ≡ length old = ap (λ (l : List (Bytes × Set)). length l) (without_all old) in
+    record {
+      left = λ k. ap (lookup_set k) (sym (without_all old));
+      once = once;
+      few = omega arith;
+      sets_are = omega (arith, same);
+      members_are = omega arith;
+      some = λ h. absurd (omega (arith, h));
+      none = λ h. (refl, refl);
+    }
 
 module _ (ks : List Bytes) (key : Bytes) (old new : List (Bytes × Set)) (gone members : ℕ) (are : AreGone ks old new gone members) (once : HasKeysOnce old) where
-  is_in : Bytes → Bool
+  abbrev is_in : Bytes → Bool
   is_in = λ k. listed k ks
 
-  is_in_more : Bytes → Bool
+  abbrev is_in_more : Bytes → Bool
   is_in_more = λ k. listed k (ks ++ key ∷ [])
 
   more_is : (k : Bytes) → is_in_more k ≡ (is_in k || same_name key k)
@@ -263,7 +273,7 @@ module _ (ks : List Bytes) (key : Bytes) (old new : List (Bytes × Set)) (gone m
   one_gone x rest taken =
       let there : lookup_set key new ≡ Some x = popped_found key x new rest taken are.once in
       let less : length (without_keys (same_name key) (without_keys is_in old)) + 1 ≡ length (without_keys is_in old)
-      = long_less key (without_keys is_in old) x (keys_without is_in old once) (sym (are.left key) ∙ there) in
+      = long_less key (without_keys is_in old) x (AllPairs-filter (λ e f. e.0 ≢ f.0) (λ e. not (is_in e.0)) old once) (sym (are.left key) ∙ there) in
       let has : list_any (λ k. is_some (lookup_set k old)) (ks ++ key ∷ []) ≡ true
       = any_more (λ k. is_some (lookup_set k old)) ks key ∙ or_last (list_any (λ k. is_some (lookup_set k old)) ks) (is_some (lookup_set key old)) (ap is_some (was_there x there)) in
       record {
@@ -296,3 +306,22 @@ module _ (ks : List Bytes) (key : Bytes) (old new : List (Bytes × Set)) (gone m
                   ∙ or_none (list_any (λ k. is_some (lookup_set k old)) ks) (is_some (lookup_set key old)) was.1 (ap is_some (ap (lookup_set key) (sym was.0) ∙ absent)),
             );
       }
+
+-- ---- one turn of the loop over the keys
+
+-- the set of a key was taken out, by bytes that are the key
+pub taken_by_bytes : (key bytes : Bytes) (es left : List (Vec ℕ × Set)) (x : Set) → bytes ≡ key → lookup (λ k. same_name bytes k.items) es ≡ Some x → left ≡ swap_remove_entry (λ k. same_name bytes k.items) es
+    → IsPermutation (seen es) ((key, x) ∷ seen left)
+taken_by_bytes key bytes es left x same found entries =
+    subst (λ l. IsPermutation (seen es) ((key, x) ∷ seen l)) (sym (entries ∙ ap (λ q. swap_remove_entry (λ k. same_name q k.items) es) same))
+    (taken_by_key key x es (ap (λ q. lookup (λ k. same_name q k.items) es) (sym same) ∙ found))
+
+pub next_key : (keys items : List Bytes) (i : ℕ) (key : Bytes) → items ≡ keys → i < length items → key ≡ get_or items i key → take (i + 1) keys ≡ take i keys ++ key ∷ []
+next_key keys items i key same low at =
+    subst (λ l. take (i + 1) l ≡ take i l ++ key ∷ []) same (take_more items i key low ∙ ap (λ k. take i items ++ k ∷ []) (sym at))
+
+pub are_same : {ks js : List Bytes} (old : List (Bytes × Set)) {new others : List (Bytes × Set)} {gone more members all : ℕ} → js ≡ ks → others ≡ new → more ≡ gone → all ≡ members → AreGone ks old new gone members
+    → AreGone js old others more all
+are_same {ks} {js} old {new} {others} {gone} {more} {members} {all} keys sets one two are =
+    subst (λ k. AreGone k old others more all) (sym keys)
+    (subst (λ n. AreGone ks old n more all) (sym sets) (subst (λ g. AreGone ks old new g all) (sym one) (subst (λ m. AreGone ks old new gone m) (sym two) are)))

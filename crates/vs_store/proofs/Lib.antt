@@ -4,6 +4,8 @@ pub mod Causes
 pub mod Changes
 pub mod Answered
 pub mod Gone
+pub mod AtPlace
+pub mod Limited
 pub mod Attributed
 pub mod Removed
 pub mod Deleted
@@ -13,3 +15,6 @@ pub mod Prepared
 pub mod Committed
 pub mod Additions
 pub mod Counted
+pub mod Entered
+pub mod Taken
+pub mod Lasting

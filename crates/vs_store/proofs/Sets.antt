@@ -1,20 +1,23 @@
 -- The entries that are kept, and the sets by their keys that contracts see: what is found, where a key stands, what an edit of the entries is
 -- for the sets; and the same sets without their links.
-use Rattle.std.proofs.Common.{◌≡◌, ℕ, ◌+◌, ◌<◌, zero, suc, Bool, List, [], ◌∷◌, cond, length, map, get_or, position, refl, sym, ap, ◌∙◌, subst, arith}
+use Rattle.std.proofs.Common.{◌≡◌, ℕ, ◌<◌, zero, suc, Bool, true, List, [], ◌∷◌, ◌++◌, cond, length, map, get_or, position, refl, sym, ap, ◌∙◌, subst, arith}
 use Rattle.std.specs.Prelude.{Option, Some, None, IfSome, is_some, option_map, nat_eq, slice_get, slice_set, sum_by}
 use Rattle.std.specs.Map.{lookup, keys_of, values_of}
 use Rattle.std.specs.Global.{Vec}
 use Rattle.std.specs.Cmp.Lexicographic.{pointwise}
 use Rattle.std.proofs.Math.ListN.{get_or-map}
+use Rattle.std.proofs.lemmas.List.{map_push}
 use Rattle.std.proofs.lemmas.List.Quantifiers.{position-Some}
 use Rattle.std.proofs.lemmas.List.Sums.{sum_by-cons}
 use Rattle.std.proofs.lemmas.Map.Entries.{length-keys_of}
 use Rattle.std.proofs.lemmas.Option.{none-some, same_Some, slice_get-map, slice_get-get_or}
-use Rattle.indexmap.specs.IndexMap.{set_value_at}
+use Rattle.indexmap.specs.IndexMap.{IndexMap, insert_entry, set_value_at}
+use Rattle.indexmap.proofs.CallerLemmas.{insert_entry-new}
 use Rattle.vs_defs.specs.Bytes.{Bytes, same_name}
 use Rattle.vs_defs.specs.Store as model
 use Rattle.vs_defs.specs.Store.{Contents, Store, lookup_set, set_of, plain, member_count}
 use Rattle.vs_defs.proofs.Keys.{same_is}
+use Rattle.vs_laws.proofs.Options.{none_is}
 use Rattle.vs_store.specs.Places.{IsSetAt}
 
 abbrev pub Entries : Type 0
@@ -54,6 +57,17 @@ a_place key (d ∷ ds) p s seen is found =
       },
     )
 
+pub a_place_or_none : (key : Bytes) (es : Entries) (o : Option ℕ) (s : Store model.Set) → map see es ≡ s.sets → o ≡ position (is_key key) (keys_of es)
+    → IfSome o (λ p. slice_get (values_of es) p ≡ lookup (is_key key) es) → IfSome o (λ p. (x : model.Set) × IsSetAt key p s x)
+a_place_or_none key es None s seen is found = tt
+a_place_or_none key es (Some p) s seen is found = a_place key es p s seen (sym is) found
+
+no_place : (key : Bytes) (es : Entries) (o : Option ℕ) → is_some o ≡ is_some (lookup (is_key key) es) → o ≡ None → lookup_set key (map see es) ≡ None
+no_place key es o found none = sym (set_is key es) ∙ none_is (lookup (is_key key) es) (sym found ∙ ap is_some none)
+
+pub no_set : (key : Bytes) (es : Entries) (o : Option ℕ) (s : Store model.Set) → map see es ≡ s.sets → is_some o ≡ is_some (lookup (is_key key) es) → o ≡ None → set_of key s ≡ None
+no_set key es o s seen found none = subst (λ l. lookup_set key l ≡ None) seen (no_place key es o found none)
+
 -- ---- a set written at a place
 
 pub written : (es : Entries) (p : ℕ) (key : Bytes) (x y : model.Set) → slice_get (map see es) p ≡ Some (key, x) → map see (set_value_at es p y) ≡ slice_set (map see es) p (key, y)
@@ -72,6 +86,12 @@ pub value_at : (es : Entries) (p : ℕ) (key : Bytes) (x y : model.Set) → slic
 value_at [] p key x y is value = absurd (none-some (key, x) is)
 value_at (e ∷ es) zero key x y is value = sym (same_Some e.1 y value) ∙ ap (λ (f : Bytes × model.Set). f.1) (same_Some (see e) (key, x) is)
 value_at (e ∷ es) (suc p) key x y is value = value_at es p key x y is value
+
+-- a set of a new key goes last
+pub put : {S : Type 0} (m : IndexMap (Vec ℕ) model.Set S) (k : Vec ℕ) (y : model.Set) → lookup_set k.items (map see m.entries) ≡ None
+    → map see (insert_entry (λ (a b : Vec ℕ). pointwise nat_eq a.items b.items) m.entries k y) ≡ map see m.entries ++ (k.items, y) ∷ []
+put m k y none =
+    ap (map see) (insert_entry-new (λ (a b : Vec ℕ). pointwise nat_eq a.items b.items) m k y (set_is k.items m.entries ∙ none)) ∙ map_push see m.entries (k, y)
 
 -- ---- without links
 

@@ -5,3 +5,5 @@ pub mod Causes
 pub mod Snapshots
 pub mod Drafts
 pub mod Gone
+pub mod Leaving
+pub mod Fresh

@@ -141,7 +141,7 @@ impl Store {
     }
 
     /// Whether a ready addition that isn't stale is refused: the first cause why.
-    fn check_fresh(&self, ready: &Ready) -> Result<(), Refusal>
+    pub(crate) fn check_fresh(&self, ready: &Ready) -> Result<(), Refusal>
         requires { stale_by ready.now.cut ready.now.add.name (set_of ready.now.add.key self.now) ≡ None }
         ensures unrefused { OnOk result (store_refusal (plain self.now) (request.Vadd ready.now.add) ≡ None) }
         ensures refused { IfErr result (λ e. IsCause e (store_refusal (plain self.now) (request.Vadd ready.now.add))) }

@@ -82,10 +82,7 @@ fn store_of_two(rt: &impl Abort, alloc: Global, limits: Limits) -> Result<Store,
     requires { AreUsual (limits_seen limits) }
 {
     let mut store = Store::new(alloc, limits);
-    let lines = [
-        ("VADD k VALUES 1 1 a", "1"),
-        ("VADD k VALUES 1 -1 b", "1"),
-    ];
+    let lines = [("VADD k VALUES 1 1 a", "1"), ("VADD k VALUES 1 -1 b", "1")];
     check_on(rt, alloc, &mut store, &lines)?;
     Ok(store)
 }
@@ -128,7 +125,11 @@ fn refused_behind<L: Ledger>(
     }
 }
 
-fn stale_drafts_by<L: Ledger>(rt: &impl Abort, alloc: Global, blank: Blank) -> Result<(), AllocError>
+fn stale_drafts_by<L: Ledger>(
+    rt: &impl Abort,
+    alloc: Global,
+    blank: Blank,
+) -> Result<(), AllocError>
     requires name { blank.name ≡ L.name }
     requires parts { blank.parts ≡ L.parts }
     requires some { 0 < L.parts }
@@ -136,21 +137,39 @@ fn stale_drafts_by<L: Ledger>(rt: &impl Abort, alloc: Global, blank: Blank) -> R
     let mut reads = Steps::<L>::new(blank);
     let usual = Limits::usual();
     let removed = [("VREM k a", "1")];
-    assert_eq!(rt; stale_behind(rt, alloc, usual, &removed, &mut reads)?, (3, false));
+    assert_eq!(rt;
+        stale_behind(rt, alloc, usual, &removed, &mut reads)?,
+        (3, false)
+    );
     let replaced = [("VADD k VALUES 1 -1 a", "0")];
-    assert_eq!(rt; stale_behind(rt, alloc, usual, &replaced, &mut reads)?, (3, false));
+    assert_eq!(rt;
+        stale_behind(rt, alloc, usual, &replaced, &mut reads)?,
+        (3, false)
+    );
     let taken = [("VADD k VALUES 1 1 x", "1")];
-    assert_eq!(rt; stale_behind(rt, alloc, usual, &taken, &mut reads)?, (1, true));
+    assert_eq!(rt;
+        stale_behind(rt, alloc, usual, &taken, &mut reads)?,
+        (1, true)
+    );
     let gone = [("DEL k", "1")];
-    assert_eq!(rt; stale_behind(rt, alloc, usual, &gone, &mut reads)?, (0, false));
+    assert_eq!(rt;
+        stale_behind(rt, alloc, usual, &gone, &mut reads)?,
+        (0, false)
+    );
     let made_anew = [
         ("DEL k", "1"),
         ("VADD k VALUES 1 1 a", "1"),
         ("VADD k VALUES 1 -1 b", "1"),
     ];
-    assert_eq!(rt; stale_behind(rt, alloc, usual, &made_anew, &mut reads)?, (4, false));
+    assert_eq!(rt;
+        stale_behind(rt, alloc, usual, &made_anew, &mut reads)?,
+        (4, false)
+    );
     let removed_and_taken = [("VREM k a", "1"), ("VADD k VALUES 1 1 x", "1")];
-    assert_eq!(rt; stale_behind(rt, alloc, usual, &removed_and_taken, &mut reads)?, (3, true));
+    assert_eq!(rt;
+        stale_behind(rt, alloc, usual, &removed_and_taken, &mut reads)?,
+        (3, true)
+    );
     Ok(())
 }
 
@@ -169,7 +188,11 @@ fn limits_with(set: u32, all: u32, changes: u64) -> Limits
     }
 }
 
-fn refused_drafts_by<L: Ledger>(rt: &impl Abort, alloc: Global, blank: Blank) -> Result<(), AllocError>
+fn refused_drafts_by<L: Ledger>(
+    rt: &impl Abort,
+    alloc: Global,
+    blank: Blank,
+) -> Result<(), AllocError>
     requires name { blank.name ≡ L.name }
     requires parts { blank.parts ≡ L.parts }
     requires some { 0 < L.parts }
@@ -200,24 +223,19 @@ fn stale_drafts(rt: HostRuntime) -> Result<(), Fail> {
     Ok(())
 }
 
-/// Drafts, prepares and commits an addition whose word gives this level.
-fn committed_by<L: Ledger>(
+/// Drafts, prepares and commits an addition with this word.
+fn committed<L: Ledger>(
     rt: &impl Abort,
     alloc: Global,
     word: u32,
-    blank: Blank,
     wanted: &[(&str, &str)],
-) -> Result<(), AllocError>
-    requires name { blank.name ≡ L.name }
-    requires parts { blank.parts ≡ L.parts }
-    requires some { 0 < L.parts }
-{
-    let mut reads = Steps::<L>::new(blank);
+    reads: &mut Steps<L>,
+) -> Result<(), AllocError> {
     let mut store = Store::new(alloc, Limits::usual());
     check_on(rt, alloc, &mut store, &[("VADD k VALUES 2 1 -1 a", "1")])?;
     let line = "VADD k VALUES 2 1 1 x CAS SETATTR {\"n\":1}";
-    let ready = prepared(rt, alloc, &store, line, word, &mut reads)?;
-    match store.commit(1, ready, &mut reads) {
+    let ready = prepared(rt, alloc, &store, line, word, reads)?;
+    match store.commit(1, ready, reads) {
         Ok(answer) => assert_eq!(rt; show(alloc, &Ok(answer))?.as_str(), "1"),
         Err(_) => panic!(rt; "the commit is refused"),
     }
@@ -225,22 +243,31 @@ fn committed_by<L: Ledger>(
     check_on(rt, alloc, &mut store, wanted)
 }
 
-#[test]
-fn committed_drafts(rt: HostRuntime) -> Result<(), Fail> {
+fn committed_by<L: Ledger>(rt: &impl Abort, alloc: Global, blank: Blank) -> Result<(), AllocError>
+    requires name { blank.name ≡ L.name }
+    requires parts { blank.parts ≡ L.parts }
+    requires some { 0 < L.parts }
+{
+    let mut reads = Steps::<L>::new(blank);
     let low = [
         ("VCARD k", "2"),
         ("VGETATTR k x", "7 bytes"),
         ("VLINKS k x", "1 layers"),
         ("VSIM k ELE x COUNT 2", "2 hits of 2"),
     ];
-    committed_by::<Brand>(&rt, rt.alloc(), u32::MAX, Blank::new(1), &low)?;
+    committed(rt, alloc, u32::MAX, &low, &mut reads)?;
     let high = [
         ("VCARD k", "2"),
         ("VEMB k x", "2 signs"),
         ("VLINKS k x", "16 layers"),
         ("VSIM k ELE a COUNT 2", "2 hits of 2"),
     ];
-    committed_by::<Brand>(&rt, rt.alloc(), 0, Blank::new(1), &high)?;
+    committed(rt, alloc, 0, &high, &mut reads)
+}
+
+#[test]
+fn committed_drafts(rt: HostRuntime) -> Result<(), Fail> {
+    committed_by::<Brand>(&rt, rt.alloc(), Blank::new(1))?;
     Ok(())
 }
 
@@ -274,18 +301,19 @@ fn looks_by<L: Ledger>(rt: &impl Abort, alloc: Global, blank: Blank) -> Result<(
         ("VADD k VALUES 1 1 c", "1"),
         ("VSIM k ELE a", "NoSuchElement"),
     ];
+    let found = found_behind(rt, alloc, "VSIM k ELE a", &removed, &mut reads)?;
+    assert_eq!(rt; found.as_str(), "2 hits of 1");
+    let found = found_behind(rt, alloc, "VSIM k ELE a TRUTH", &removed, &mut reads)?;
+    assert_eq!(rt; found.as_str(), "2 hits of 1");
     let gone = [("DEL k", "1"), ("VSIM k ELE a", "0 hits of 1")];
-    let made = [("VADD l VALUES 1 1 a", "1")];
-    for (line, lines, wanted) in [
-        ("VSIM k ELE a", removed.as_slice(), "2 hits of 1"),
-        ("VSIM k ELE a TRUTH", removed.as_slice(), "2 hits of 1"),
-        ("VSIM k VALUES 1 1 COUNT 1", gone.as_slice(), "1 hits of 1"),
-        ("VSIM k ELE b TRUTH", gone.as_slice(), "2 hits of 1"),
-        ("VSIM l ELE a", made.as_slice(), "0 hits of 1"),
-    ] {
-        let found = found_behind(rt, alloc, line, lines, &mut reads)?;
-        assert_eq!(rt; found.as_str(), wanted, "{line}");
-    }
+    let found = found_behind(rt, alloc, "VSIM k VALUES 1 1 COUNT 1", &gone, &mut reads)?;
+    assert_eq!(rt; found.as_str(), "1 hits of 1");
+    let made = [
+        ("VADD l VALUES 1 1 a", "1"),
+        ("VSIM l ELE a", "1 hits of 1"),
+    ];
+    let found = found_behind(rt, alloc, "VSIM l ELE a", &made, &mut reads)?;
+    assert_eq!(rt; found.as_str(), "0 hits of 1");
     Ok(())
 }
 

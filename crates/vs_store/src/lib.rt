@@ -4,10 +4,14 @@
 
 mod adding;
 mod attributes;
+#[cfg(test)]
+mod change_tests;
 mod committing;
 mod counting;
 mod drafting;
 mod error;
+#[cfg(test)]
+mod event_tests;
 mod keys;
 mod limits;
 mod looked;
@@ -17,8 +21,6 @@ mod ready;
 mod removing;
 mod room;
 mod store;
-#[cfg(test)]
-mod event_tests;
 #[cfg(test)]
 mod tests;
 

@@ -124,6 +124,7 @@ impl Store {
         ensures does { StoreDoes self.now (request.Vinfo key.now) [] (outcome_of result) self.now }
         ensures scores { IfOk result HasScores }
     {
+        let _changes = self.changes();
         match self.set_at(key) {
             Some(set) => Ok(vs_query::info(set)?),
             None => Ok(Answer::NullList),

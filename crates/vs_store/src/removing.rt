@@ -1,14 +1,16 @@
 //! VREM and DEL. A set without members isn't kept: its key goes with its only member, and that takes no memory.
-ghost use Rattle.std.specs.Prelude.{◌≡◌, ◌<◌, ◌≤◌, ◌^◌, [], true, is_some, length, IfErr, IfOk, OnOk, OnErr};
+ghost use Rattle.std.specs.Prelude.{◌≡◌, ◌<◌, ◌≤◌, ◌^◌, [], Some, true, is_some, length, slice_get, IfErr, IfOk, OnOk, OnErr};
 ghost use Rattle.std.specs.List.{list_any};
+ghost use Rattle.vs_defs.specs.Bytes.{Bytes};
 ghost use Rattle.vs_defs.specs.Request as request;
-ghost use Rattle.vs_defs.specs.Store.{HasKeysOnce, is_member, set_of};
+ghost use Rattle.vs_defs.specs.Store.{HasKeysOnce, Set as Kind, is_member, set_of};
 ghost use Rattle.vs_thread_defs.specs.Machine.{StoreDoes};
 ghost use Rattle.vs_command.specs.Outcomes.{outcome_of};
 ghost use Rattle.vs_command.specs.Scores.{HasScores};
 ghost use Rattle.vs_set.specs.Changed.{RemovesMember};
 ghost use Rattle.vs_set.specs.Kept.{IsSound};
 ghost use Rattle.vs_store.specs.Gone.{AreGone, count_in, seen};
+ghost use Rattle.vs_store.specs.Leaving.{Leaves};
 
 use crate::Store;
 use indexmap::IndexMap;
@@ -32,6 +34,25 @@ fn remove_from(
     set.remove(name, number, slot)?;
     let _count = set.count();
     Ok(())
+}
+
+/// Removes a member of the set at a place. The only member goes with its set, by no search.
+fn take_member(
+    sets: &mut IndexMap<Vec<u8>, Set<Kept>>,
+    place: usize,
+    name: &[u8],
+    number: u64,
+    slot: &mut Slot,
+) -> Result<(), NoMemory>
+    requires there { (key : Bytes) × (x : Kind) × (slice_get (seen sets.old.entries) place ≡ Some (key, x)) × (is_member name.now x.contents.members ≡ true) }
+    ensures taken { OnOk result ((key : Bytes) (x : Kind) → slice_get (seen sets.old.entries) place ≡ Some (key, x) → Leaves place name.now number key x (seen sets.old.entries) (seen sets.new.entries)) }
+    ensures err { OnErr result (seen sets.new.entries ≡ seen sets.old.entries) }
+{
+    if sets[place].count() == 1 {
+        sets.swap_remove_index(place);
+        return Ok(());
+    }
+    remove_from(&mut sets[place], name, number, slot)
 }
 
 /// Takes the sets of these keys out: how many they are, and how many members they have together.
@@ -67,11 +88,7 @@ impl Store {
             return Ok(Answer::Int(0));
         };
         let number = self.next_number()?;
-        if self.sets[place].count() == 1 {
-            self.sets.swap_remove_index(place);
-        } else {
-            remove_from(&mut self.sets[place], name, number, slot)?;
-        }
+        take_member(&mut self.sets, place, name, number, slot)?;
         self.members -= 1;
         self.changes = number;
         Ok(Answer::Int(1))

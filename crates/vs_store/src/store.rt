@@ -84,6 +84,25 @@ impl Store {
         ensures scores { IfOk result HasScores }
         ensures memory { needs_no_memory (request_of request.now) ≡ true → result ≢ Err Refusal.NoMemory }
     {
+        let outcome = self.carry_out(request, words, slot);
+        // a store that is kept is good
+        let _changes = self.changes();
+        outcome
+    }
+
+    /// Each request by its kind.
+    fn carry_out(
+        &mut self,
+        request: &Request,
+        words: &[u32],
+        slot: &mut Slot,
+    ) -> Result<Answer, Refusal>
+        requires bounds { IsInBounds (request_of request.now) }
+        requires words { length words.now ≡ draws_of (request_of request.now) }
+        ensures does { StoreDoes self.old (request_of request.now) words.now (outcome_of result) self.new }
+        ensures scores { IfOk result HasScores }
+        ensures memory { needs_no_memory (request_of request.now) ≡ true → result ≢ Err Refusal.NoMemory }
+    {
         match request {
             Request::Ping(None) => Ok(Answer::Pong),
             Request::Ping(Some(text)) => Ok(Answer::Bulk(text.try_clone()?)),

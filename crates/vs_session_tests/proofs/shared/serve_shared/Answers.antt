@@ -11,9 +11,10 @@ returns g c =
       known = (
         refl,
         record {
-          sound = record { legal = tt; good = λ k e h. absurd (omega (arith, h)) };
+          legal = tt;
+          good = λ k e h. absurd (omega (arith, h));
           store_is = sym (ap (λ (m : Shared). m.store) c.new-server.ensures.machine ∙ c.new.ensures ∙ ap empty_store c.usual.ensures);
         },
       );
       words = c.new-server.ensures.generator ∙ c.generator.ensures;
-    }) in (i.0, i.1, i.2, i.3, record { now = i.4.now; there = i.4.there.known.1.sound; is_end = i.4.is_end })
+    }) in (i.0, i.1, i.2, i.3, record { now = i.4.now; there = (i.4.there.known.1.legal, i.4.there.known.1.good); is_end = i.4.is_end })
