@@ -38,7 +38,7 @@ module _ {H J : Type 0} (f : H → J) (call : CallOn H) (other : CallOn J) (k : 
     abbrev to : Point J
     to = point_by f now
 
-    session_over : (input output : Bytes) → session.Session call true read draws k start.generator start.history input output now.history now.generator
+    abbrev session_over : (input output : Bytes) → session.Session call true read draws k start.generator start.history input output now.history now.generator
         → session.Session other true read draws k from.generator from.history input output to.history to.generator
     session_over input output x = record {
       messages = x.messages;
@@ -50,7 +50,7 @@ module _ {H J : Type 0} (f : H → J) (call : CallOn H) (other : CallOn J) (k : 
       written = x.written;
     }
 
-    begun_over : (input output : Bytes) → Begun call k start input output now → Begun other k from input output to
+    abbrev begun_over : (input output : Bytes) → Begun call k start input output now → Begun other k from input output to
     begun_over input output x = record {
       messages = x.messages;
       ends = x.ends;
@@ -62,7 +62,7 @@ module _ {H J : Type 0} (f : H → J) (call : CallOn H) (other : CallOn J) (k : 
       written = x.written;
     }
 
-    read_part_over : (input output : Bytes) → ReadPart call k start input output now → ReadPart other k from input output to
+    abbrev read_part_over : (input output : Bytes) → ReadPart call k start input output now → ReadPart other k from input output to
     read_part_over input output x = record { begun = begun_over input output x.begun; all = x.all; no_quit = x.no_quit; unbroken = x.unbroken }
 
     whole_over : (how : session.Ending) (input output : Bytes) → IsWhole call k how start input output now → IsWhole other k how from input output to

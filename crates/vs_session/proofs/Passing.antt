@@ -29,7 +29,9 @@ use Rattle.vs_reply.specs.Replies.{short_of}
 use Rattle.vs_history.proofs.Beginnings.{prefix_self, prefix_trans, prefix_length}
 use Rattle.vs_pass.proofs.Tasks.{at_the_end}
 use Rattle.vs_store.specs.Drafts.{IsPrepared}
-use Rattle.vs_shared.specs.Calls.{HasCas, LooksUnrefused, IsReadyAfter}
+use Rattle.vs_shared.specs.declared.begun.Begun.{Begun}
+use Rattle.vs_shared.specs.declared.begun.Begun.TheVariants.{Drafted, Done}
+use Rattle.vs_shared.specs.Calls.{HasCas, LooksUnrefused, DraftAnswers, IsReadyAfter}
 use Rattle.vs_session.specs.Shared.{CallsShared}
 use Rattle.vs_session.proofs.Changes.{step_is_short, brief_is_short}
 
@@ -203,3 +205,10 @@ module _ (limits : Limits) (k : ℕ) where
   at_once r add is drawn s t result done same d =
       subst (λ (q : Request). GraphCall limits k s q (drawn ∷ []) (outcome_of result) t) (sym is)
       (subst (λ (x : Result Answer Refusal). GraphCall limits k s (request.Vadd add) (drawn ∷ []) (outcome_of x) t) (sym same) d.now.call)
+
+  -- what was begun, by which it was
+  pub was_drafted : (add : Add) (drawn : ℕ) (s t : GraphHistory) (b : Begun) (d : core.Drafting) → b ≡ Drafted d → DraftAnswers limits k s add drawn (Ok b) t → Watches limits k s t × DraftedAt limits t add drawn (length t) d
+  was_drafted add drawn s t b d is answers = subst (λ (x : Begun). DraftAnswers limits k s add drawn (Ok x) t) is answers
+
+  pub was_done : (add : Add) (drawn : ℕ) (s t : GraphHistory) (b : Begun) (a : Answer) → b ≡ Done a → DraftAnswers limits k s add drawn (Ok b) t → DoneAtOnce limits k s add drawn (outcome.Answered (answer_of a)) t
+  was_done add drawn s t b a is answers = subst (λ (x : Begun). DraftAnswers limits k s add drawn (Ok x) t) is answers

@@ -7,25 +7,26 @@ use Rattle.vs_server.proofs.workers.give_back.Goals as goal
 
 pub loop-listener-preserved : goal.loop-listener-preserved
 loop-listener-preserved g c =
+    let W = Worker g.row.N.Denot g.row.L.Denot g.row.L-Input.Denot g.row.L-Output.Denot in
     let i = c.loop-listener.invariant in
     let h = c.in-Some.field-0 in
     let items = c.in-Some.ensures.items in
-    let both = all_pop (λ (w : Worker g.row.L.Denot g.row.L-Input.Denot g.row.L-Output.Denot). (w.ticket.table_id ≡ c.args.word.now.shared.table_id) × (w.ticket.me ≡ (share 1 w.ticket.me.0.below w.ticket.me.0.past c.args.limit, []))) _ _ h items i.2 in
+    let both = all_pop (λ (w : W). (w.ticket.table_id ≡ c.args.word.now.shared.table_id) × (w.ticket.me ≡ (share 1 w.ticket.me.0.below w.ticket.me.0.past c.args.limit, []))) _ _ h items i.2 in
     let n = length c.pop.new.self.items in
-    let long : length c.loop-listener.hands.items ≡ n + 1 = length_pop _ _ h items in
+    let long : length c.loop-listener.workers.items ≡ n + 1 = length_pop _ _ h items in
     let small : n + 1 < 4294967296 = subst (λ (k : ℕ). k < 4294967296) long i.1 in
     let was = i.3 ∙ ap (λ (k : ℕ). (share (4294967296 - k) c.loop-listener.all.me.0.below c.loop-listener.all.me.0.past c.args.limit, [])) long in
-    let now = joined n c.args.limit c.loop-listener.all.me h.ticket.me c.gather.new.mine.me small was both.1.1 c.gather.ensures.1 in
-    let served = now.1 in
-    let overs = now.2 in
-    let served_all = i.4 in
-    let overs_all = i.5 in
-    let served_cut = ap (λ l. sum_by (λ (w : Worker g.row.L.Denot g.row.L-Input.Denot g.row.L-Output.Denot). w.ticket.me.0.below) l) items ∙ sum_by_push (λ (w : Worker g.row.L.Denot g.row.L-Input.Denot g.row.L-Output.Denot). w.ticket.me.0.below) c.pop.new.self.items h in
-    let overs_cut = ap (λ l. sum_by (λ (w : Worker g.row.L.Denot g.row.L-Input.Denot g.row.L-Output.Denot). w.ticket.me.0.past) l) items ∙ sum_by_push (λ (w : Worker g.row.L.Denot g.row.L-Input.Denot g.row.L-Output.Denot). w.ticket.me.0.past) c.pop.new.self.items h in
+    let now = joined n c.args.limit c.loop-listener.all.me h.ticket.me c.gather.new.maker.me small was both.1.1 c.gather.ensures.gathered in
+    let below = now.1 in
+    let past = now.2 in
+    let below_all = i.4 in
+    let past_all = i.5 in
+    let below_cut = ap (λ l. sum_by (λ (w : W). w.ticket.me.0.below) l) items ∙ sum_by_push (λ (w : W). w.ticket.me.0.below) c.pop.new.self.items h in
+    let past_cut = ap (λ l. sum_by (λ (w : W). w.ticket.me.0.past) l) items ∙ sum_by_push (λ (w : W). w.ticket.me.0.past) c.pop.new.self.items h in
     let room = i.6 in
     let p = c.push_reserved.ensures in
     let more = length_pop _ _ _ p.items in (
-      c.gather.ensures.0 ∙ i.0,
+      c.gather.ensures.table ∙ i.0,
       omega arith,
       both.0,
       now.0,
