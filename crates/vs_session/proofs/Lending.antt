@@ -20,9 +20,15 @@ use Rattle.vs_command.specs.Refusals.{refusal_of}
 use Rattle.vs_reply.specs.Replies.{short_of}
 use Rattle.vs_pass.specs.Knower.{Knower}
 use Rattle.vs_connection.specs.Stage.{read, draws, ServesOne}
+use Rattle.vs_connection.specs.declared.end.SessionEnd.{SessionEnd}
 use Rattle.vs_connection.specs.Served.{IsServed}
+use Rattle.vs_connection.specs.Point.{Point}
+use Rattle.vs_connection.specs.Connection.{EndsAt, IsEnd}
+use Rattle.vs_defs.specs.Bytes.{Bytes}
 use Rattle.vs_session.specs.After.{After}
-use Rattle.vs_session.specs.Shared.{CallsShared, WordsRefused, Lent, lent_call, IsAt}
+use Rattle.vs_session.specs.Shared.{CallsShared, WordsRefused, Lent, lent_call, IsAt, point_of, ServesPass}
+use Rattle.vs_session.proofs.Kept.{end_keeps}
+use Rattle.vs_session.proofs.Mapped.{point_by, end_over}
 use Rattle.vs_session.proofs.Memory.{answered, long_no_ping}
 use Rattle.vs_session.proofs.Passing.{long_call, short_call}
 use Rattle.vs_session.proofs.Serving.{not_read}
@@ -90,3 +96,21 @@ module _ (limits : Limits) where
       by_way : (new.stream ≡ after_draws (draws r) old.stream) ⊎ WordsRefused old r (outcome_of result) new → (new.stream ≡ after_draws (draws r) old.stream) ⊎ WordsRefused old r outcome.OutOfMemory new
       by_way (inl moved) = inl moved
       by_way (inr refused) = inr (record { some = refused.some; outcome_is = refl; seen = refused.seen; stream = refused.stream })
+
+-- where a pass is that is lent
+abbrev pub lent_point : Knower → ℕ → Point Lent
+lent_point pass loan = record { history = record { history = pass.seen; loan = loan }; generator = pass.stream }
+
+module _ (limits : Limits) (end : SessionEnd) (old now : Knower) (loan loan_now : ℕ) (input output : Bytes) (ended : EndsAt (lent_call limits) old.number (IsAt now loan_now old.number) end (lent_point old loan) input output) where
+  -- it is the loan that it was
+  pub loan_stays : loan_now ≡ loan
+  loan_stays = ended.there.loan_is ∙ end_keeps (λ (h : Lent). h.loan) (lent_call limits) old.number (λ h r words o t c. c.1) (lent_point old loan) ended.now end input output ended.is_end
+
+  pub serves_pass : ServesPass limits end old input output now
+  serves_pass =
+      let to : point_by (λ (h : Lent). h.history) ended.now ≡ point_of now =
+          ap (λ (s : GraphHistory). record { history = s; generator = ended.now.generator }) (sym ended.there.seen) ∙ ap (λ (g : Lcg). record { history = now.seen; generator = g }) (sym ended.there.stream) in record {
+        is_end = subst (λ (p : Point GraphHistory). IsEnd (GraphCall limits) old.number end (point_of old) input output p) to
+            (end_over (λ (h : Lent). h.history) (lent_call limits) (GraphCall limits) old.number (λ h r words o t c. c.0) (lent_point old loan) ended.now end input output ended.is_end);
+        number = ended.there.number;
+      }

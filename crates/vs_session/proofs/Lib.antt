@@ -1,5 +1,6 @@
 pub mod Calls
 pub mod Changes
+pub mod Kept
 pub mod Lending
 pub mod Mapped
 pub mod Memory

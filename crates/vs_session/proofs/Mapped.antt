@@ -74,7 +74,7 @@ module _ {H J : Type 0} (f : H → J) (call : CallOn H) (other : CallOn J) (k : 
     end_over (Protocol fault at) input output x = whole_over (session.Protocol (fault_of fault) at) input output x
     end_over CutShort input output x = whole_over session.CutShort input output x
     end_over ReadFault input output (x, pings) = (read_part_over input output x, pings)
-    end_over Spent input output (long, x, pings) = (long, read_part_over input output x, pings)
+    end_over Spent input output (long, (x, pings)) = (long, (read_part_over input output x, pings))
     end_over NoMemory input output (x, pings) = (
       record { front = x.front; rest = x.rest; parts = x.parts; before = read_part_over x.front output x.before; whole = x.whole; reading = x.reading },
       pings,

@@ -21,7 +21,7 @@ use vs_outside::{Gate, Sink, Source, Text};
 use vs_pass::Pass;
 use vs_shared::Shared;
 
-// What a connection's messages are carried out with.
+// What a connection's messages are carried out with. It owns no memory, so that its caller knows what it leaves behind each reference.
 #[derive(Drop)]
 struct SharedServer<'a, N: TableName, R, G> {
     rt: &'a R,
@@ -29,7 +29,7 @@ struct SharedServer<'a, N: TableName, R, G> {
     shared: &'a Shared<N>,
     pass: &'a mut Pass<N>,
     gate: &'a G,
-    replies: Replies,
+    replies: &'a mut Replies,
 }
 
 impl<'a, N: TableName, R: Wait, G: Gate> SharedServer<'a, N, R, G> {
@@ -90,13 +90,14 @@ pub fn serve_connection<N: TableName, R: Wait, S: Source, K: Sink, G: Gate>(
     ensures read_fault { (result ≡ SessionEnd.ReadFault) ↔ (S.faults source.old < S.faults source.new) }
     ensures write_fault { (result ≡ SessionEnd.WriteFault) ↔ (K.faults sink.old < K.faults sink.new) }
 {
+    let mut replies = Replies::new(alloc);
     let mut server = SharedServer {
         rt,
         alloc,
         shared,
         pass,
         gate,
-        replies: Replies::new(alloc),
+        replies: &mut replies,
     };
     serve_by(alloc, &mut server, source, sink)
 }
