@@ -66,7 +66,7 @@ returns g c =
     let whole = lent c.deal_all.new.workers.items c.run_all.new.workers c.deal_all.new.workers.len same c.deal_all.new.workers.ok.0 in
     let P = (λ k s a b t. Serves (λ i. g.L.Input.Source.left i) (λ i. g.L.Input.Source.faults i) (λ o. g.L.Output.Sink.written o) (λ o. g.L.Output.Sink.faults o) g.N.TableName.limits k s a b t) in
     let went = Went (λ (h : W). h.listener) (λ (h : W). h.ticket.me) (λ (h : W). h.has_failed) (λ (h : W). h.pass.number) (λ (h : W). point_of h.pass) (λ v. g.L.Listener.given v) (λ v. g.L.Listener.closed v) (λ v. g.L.Listener.faults v)
-        P c.args.limit in
+    P c.args.limit in
     ended (λ (h : W). h.listener) (λ (h : W). h.ticket.me) (λ (h : W). h.has_failed) (λ (h : W). h.pass.number) (λ (h : W). point_of h.pass) (λ v. g.L.Listener.given v) (λ v. g.L.Listener.closed v) (λ v. g.L.Listener.faults v)
     P c.args.limit g.N.TableName.limits c.args.seed
     c.args.listeners.now.items c.give_back.new.listeners.items c.deal_all.new.workers.items _ c.give_back.result.0 (seen_by c.give_back.result.1) c.end_last.ensures (ap length whole ∙ same)
