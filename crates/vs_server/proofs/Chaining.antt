@@ -43,3 +43,14 @@ pub may_close : {I O : Type 0} (g c : Option (List (I × O))) (i : I) (o : O) �
 may_close None c i o h = tt
 may_close (Some g) None i o h = tt
 may_close (Some g) (Some c) i o h = let few = h.no_more in omega (arith, length-append g ((i, o) ∷ []))
+
+-- one more was given and closed, or none
+pub chained_by : {S I O : Type 0} (P : ℕ → S → I × O → I × O → S → Type 0) (k k' : ℕ) (s t : S) (g c g' c' : Option (List (I × O))) (i : I) (o : O) (i' : I) (o' : O) → k' ≡ k → g' ≡ with_link i o g → c' ≡ with_link i' o' c
+    → P k s (i, o) (i', o') t → Chained P k k' s t g c g' c'
+chained_by {S} {I} {O} P k k' s t g c g' c' i o i' o' e given closed p =
+    subst (λ (x : Option (List (I × O))). Chained P k k' s t g c x c') (sym given)
+    (subst (λ (y : Option (List (I × O))). Chained P k k' s t g c (with_link i o g) y) (sym closed) (chained_one P k k' s t g c (i, o) (i', o') e p))
+
+pub chained_still : {S X : Type 0} (P : ℕ → S → X → X → S → Type 0) (k : ℕ) (s : S) (g c g' c' : Option (List X)) → g' ≡ g → c' ≡ c → Chained P k k s s g c g' c'
+chained_still {S} {X} P k s g c g' c' given closed =
+    subst (λ (x : Option (List X)). Chained P k k s s g c x c') (sym given) (subst (λ (y : Option (List X)). Chained P k k s s g c g y) (sym closed) (chained_none P k s g c))

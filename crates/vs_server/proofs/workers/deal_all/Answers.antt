@@ -25,8 +25,8 @@ loop-listener-preserved g c =
     let limit = c.args.all.now.me.0.limit in
     let d = c.deal-ticket.ensures in
     let seat = dealt n limit c.loop-listener.all.me c.deal-ticket.new.maker.me (omega arith) i.1 d.maker.1 in
-    let pass = popped c.args.seed (length c.loop-listener.listeners.items) (length c.pop.new.self.items) c.loop-listener.passes.items c.pop-2.new.self.items c.in-Some-pass.pass i.6 long c.in-Some-pass.ensures.items in
-    let first : point_of c.in-Some-pass.pass ≡ start c.args.seed c.in-Some-pass.pass.number = begins c.args.seed (length c.pop.new.self.items) c.in-Some-pass.pass pass.1 in
+    let pass = popped c.args.seed (length c.loop-listener.listeners.items) (length c.pop.new.self.items) c.loop-listener.passes.items c.pop-in-Some.new.self.items c.in-Some-pop.pass i.6 long c.in-Some-pop.ensures.items in
+    let first : point_of c.in-Some-pop.pass ≡ start c.args.seed c.in-Some-pop.pass.number = begins c.args.seed (length c.pop.new.self.items) c.in-Some-pop.pass pass.1 in
     let number = ap (λ k. k.number) pass.1 in (
       d.maker.0 ∙ i.0,
       seat ∙ ap (λ (k : ℕ). (share (4294967296 - k) 0 0 limit, [])) (sym more),

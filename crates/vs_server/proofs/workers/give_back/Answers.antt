@@ -1,8 +1,11 @@
-use Rattle.std.proofs.Common.{◌≡◌, ℕ, ◌+◌, ◌-◌, ◌<◌, [], length, ap, sym, ◌∙◌, subst, arith, sum_by, ◌≤◌}
+use Rattle.std.proofs.Common.{◌≡◌, ℕ, ◌+◌, ◌-◌, ◌<◌, ◌++◌, [], length, ap, sym, ◌∙◌, subst, arith, sum_by, ◌≤◌}
 use Rattle.std.proofs.lemmas.List.Sums.{sum_by_push}
+use Rattle.atomic_table.specs.Table.{Me}
+use Rattle.vs_tickets.specs.declared.View.{View}
 use Rattle.vs_tickets.specs.Rule.{share}
+use Rattle.vs_server.specs.Ended.{back, seen_by}
 use Rattle.vs_server.specs.declared.worker.Worker.{Worker}
-use Rattle.vs_server.proofs.Sums.{all_pop, length_pop, joined, parted_left, met_more}
+use Rattle.vs_server.proofs.Sums.{all_pop, length_pop, joined, parted_left, met_none, met_more, met_all}
 use Rattle.vs_server.proofs.workers.give_back.Goals as goal
 
 pub loop-listener-preserved : goal.loop-listener-preserved
@@ -36,3 +39,26 @@ loop-listener-preserved g c =
       parted_left _ _ _ _ _ _ h i.7 items p.items,
       met_more _ _ _ _ h _ _ i.8 items c.met.ensures.pass c.met.ensures.last,
     )
+
+pub loop-listener-init : goal.loop-listener-init
+loop-listener-init g c =
+    let W = Worker g.row.N.Denot g.row.L.Denot g.row.L-Input.Denot g.row.L-Output.Denot in
+    let seat = c.requires.all.1 in
+    let n = length c.args.workers.items in
+    let none : length c.args.listeners.now.items ≡ 0 = ap length c.requires.room.0 in
+    let room = c.requires.room.1 in (
+      c.requires.word.0.0,
+      c.requires.all.0,
+      c.requires.workers,
+      seat ∙ sym (ap (λ (m : Me ℕ View). (share (4294967296 - n) m.0.below m.0.past c.args.limit, [])) seat),
+      ap (λ (m : Me ℕ View). m.0.below + sum_by (λ (w : W). w.ticket.me.0.below) c.args.workers.items) seat,
+      ap (λ (m : Me ℕ View). m.0.past + sum_by (λ (w : W). w.ticket.me.0.past) c.args.workers.items) seat,
+      omega arith,
+      record { whole = ap (λ l. l ++ back (λ (w : W). w.listener) c.args.workers.items) c.requires.room.0 },
+      met_none (λ (w : W). w.pass.seen) c.args.workers.items [],
+    )
+
+pub returns-clause-met : goal.returns-clause-met
+returns-clause-met g c =
+    let W = Worker g.row.N.Denot g.row.L.Denot g.row.L-Input.Denot g.row.L-Output.Denot in
+    met_all (λ (w : W). w.pass.seen) c.loop-listener.workers.items c.args.workers.items (seen_by c.loop-listener.last) c.in_default.ensures.items c.loop-listener.invariant.8

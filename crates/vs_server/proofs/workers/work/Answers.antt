@@ -18,8 +18,8 @@ run_all-requires-clause-workers g c _ _ =
     let each = subst (λ (k : ℕ). All (λ (w : W). (w.ticket.table_id ≡ c.args.word.now.shared.table_id) × IsFresh w.ticket.me k) c.deal_all.new.workers.items) limit c.deal_all.ensures.workers.1 in
     subst (λ l. All (λ (w : W). (w.ticket.table_id ≡ c.args.word.now.shared.table_id) × IsFresh w.ticket.me c.args.limit) l) (sym c.deref_mut.ensures.value) each
 
-pub give_back-requires-clause-workers : goal.give_back-requires-clause-workers
-give_back-requires-clause-workers g c _ _ =
+pub give_back-drawn-requires-clause-workers : goal.give_back-drawn-requires-clause-workers
+give_back-drawn-requires-clause-workers g c _ _ =
     let W = Worker g.row.N.Denot g.row.L.Denot g.row.L-Input.Denot g.row.L-Output.Denot in
     let value = c.deref_mut.ensures.value in
     let kept = c.run_all.auto.workers in
@@ -31,8 +31,8 @@ give_back-requires-clause-workers g c _ _ =
     let dealt = c.deal_all.ensures.workers.1 k d (subst (λ (n : ℕ). k < n) (ap length value) short) in
     (one.0 ∙ ap (λ l. (slice_index_or l k d).ticket.table_id) value ∙ dealt.0, seated _ _ _ _ _ one.1))
 
-pub give_back-requires-clause-all : goal.give_back-requires-clause-all
-give_back-requires-clause-all g c _ _ =
+pub give_back-drawn-requires-clause-all : goal.give_back-drawn-requires-clause-all
+give_back-drawn-requires-clause-all g c _ _ =
     let value = c.deref_mut.ensures.value in
     let same : length c.run_all.new.workers ≡ length c.deal_all.new.workers.items = c.run_all.auto.workers ∙ ap length value in
     let whole = lent c.deal_all.new.workers.items c.run_all.new.workers c.deal_all.new.workers.len same c.deal_all.new.workers.ok.0 in
@@ -44,8 +44,8 @@ give_back-requires-clause-all g c _ _ =
       c.deal_all.ensures.all.1 ∙ ap (λ (k : ℕ). (share (4294967296 - length c.deal_all.new.workers.items) 0 0 k, [])) limit ∙ ap (λ (n : ℕ). (share (4294967296 - n) 0 0 c.args.limit, [])) (sym long),
     )
 
-pub give_back-requires-clause-room : goal.give_back-requires-clause-room
-give_back-requires-clause-room g c _ _ =
+pub give_back-drawn-requires-clause-room : goal.give_back-drawn-requires-clause-room
+give_back-drawn-requires-clause-room g c _ _ =
     let value = c.deref_mut.ensures.value in
     let same : length c.run_all.new.workers ≡ length c.deal_all.new.workers.items = c.run_all.auto.workers ∙ ap length value in
     let whole = lent c.deal_all.new.workers.items c.run_all.new.workers c.deal_all.new.workers.len same c.deal_all.new.workers.ok.0 in
@@ -64,11 +64,10 @@ returns g c =
     let kept = c.run_all.auto.workers in
     let same : length c.run_all.new.workers ≡ length c.deal_all.new.workers.items = kept ∙ ap length value in
     let whole = lent c.deal_all.new.workers.items c.run_all.new.workers c.deal_all.new.workers.len same c.deal_all.new.workers.ok.0 in
-    let P = (λ k s a b t. Serves (λ i. g.L.Input.Source.left i) (λ i. g.L.Input.Source.faults i) (λ o. g.L.Output.Sink.written o) (λ o. g.L.Output.Sink.faults o) g.N.TableName.limits k s a b t) in
     let went = Went (λ (h : W). h.listener) (λ (h : W). h.ticket.me) (λ (h : W). h.has_failed) (λ (h : W). h.pass.number) (λ (h : W). point_of h.pass) (λ v. g.L.Listener.given v) (λ v. g.L.Listener.closed v) (λ v. g.L.Listener.faults v)
     P c.args.limit in
     ended (λ (h : W). h.listener) (λ (h : W). h.ticket.me) (λ (h : W). h.has_failed) (λ (h : W). h.pass.number) (λ (h : W). point_of h.pass) (λ v. g.L.Listener.given v) (λ v. g.L.Listener.closed v) (λ v. g.L.Listener.faults v)
-    P c.args.limit g.N.TableName.limits c.args.seed
-    c.args.listeners.now.items c.give_back.new.listeners.items c.deal_all.new.workers.items _ c.give_back.result.0 (seen_by c.give_back.result.1) c.end_last.ensures (ap length whole ∙ same)
+    (Serves g.L.Input.Source.left g.L.Input.Source.faults g.L.Output.Sink.written g.L.Output.Sink.faults g.N.TableName.limits) c.args.limit g.N.TableName.limits c.args.seed
+    c.args.listeners.now.items c.give_back-drawn.new.listeners.items c.deal_all.new.workers.items _ c.give_back-drawn.result.0 (seen_by c.give_back-drawn.result.1) c.end_last.ensures (ap length whole ∙ same)
     (subst (λ l. AtEach went c.deal_all.new.workers.items l) (sym whole) (subst (λ l. AtEach went l c.run_all.new.workers) value (λ i d l. let one = c.run_all.ensures i d l in (one.1, one.2, one.3, one.4))))
-    c.deal_all.ensures.workers.2 c.deal_all.ensures.workers.3 c.deal_all.ensures.workers.0 c.give_back.ensures.listeners c.give_back.ensures.below c.give_back.ensures.past c.requires.some.0 c.give_back.ensures.met
+    c.deal_all.ensures.workers.2 c.deal_all.ensures.workers.3 c.deal_all.ensures.workers.0 c.give_back-drawn.ensures.listeners c.give_back-drawn.ensures.below c.give_back-drawn.ensures.past c.requires.some.0 c.give_back-drawn.ensures.met

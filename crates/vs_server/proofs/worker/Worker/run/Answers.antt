@@ -32,12 +32,12 @@ loop-preserved g c =
     let served : c.serve_one.result ≡ true = search rules in
     let below = c.draw.ensures.below drawn in
     let old = i.2 in
-    let seat : c.draw.new.mine.me.0 ≡ share 1 (c.loop.self.ticket.me.0.below + 1) 0 c.args.limit = below ∙ ap (λ (m : Me ℕ View). share m.0.parts (c.loop.self.ticket.me.0.below + 1) m.0.past m.0.limit) old in
+    let seat : c.draw.new.seat.me.0 ≡ share 1 (c.loop.self.ticket.me.0.below + 1) 0 c.args.limit = below ∙ ap (λ (m : Me ℕ View). share m.0.parts (c.loop.self.ticket.me.0.below + 1) m.0.past m.0.limit) old in
     let n = ap (λ (v : View). v.below) seat in
     let one = subst (λ (b : Bool). Counted (g.L.Listener.closed c.loop.self.listener) (g.L.Listener.closed c.serve_one.new.listener) (if b then 1 else 0)) served c.serve_one.ensures.counted in (
       (tt, tt),
       c.draw.ensures.table.0 ∙ i.1,
-      ap (λ (v : View). (v, c.draw.new.mine.me.1)) (seat ∙ ap (λ (k : ℕ). share 1 k 0 c.args.limit) (sym n)) ∙ ap (λ (r : List _). (share 1 c.draw.new.mine.me.0.below 0 c.args.limit, r)) (c.draw.ensures.table.1 ∙ ap (λ (m : Me ℕ View). m.1) old),
+      ap (λ (v : View). (v, c.draw.new.seat.me.1)) (seat ∙ ap (λ (k : ℕ). share 1 k 0 c.args.limit) (sym n)) ∙ ap (λ (r : List _). (share 1 c.draw.new.seat.me.0.below 0 c.args.limit, r)) (c.draw.ensures.table.1 ∙ ap (λ (m : Me ℕ View). m.1) old),
       subst (λ (k : ℕ). Counted (g.L.Listener.closed c.args.self.now.listener) (g.L.Listener.closed c.serve_one.new.listener) k) (sym n) (counted_more _ _ _ _ _ i.3 one),
       c.serve_one.ensures.calm served ∙ i.4,
       chained_more _ _ _ _ _ _ _ _ _ _ _ _ _ i.5 c.serve_one.ensures.chained,
