@@ -65,7 +65,7 @@ returns g c =
     let same : length c.run_all.new.workers ≡ length c.deal_all.new.workers.items = kept ∙ ap length value in
     let whole = lent c.deal_all.new.workers.items c.run_all.new.workers c.deal_all.new.workers.len same c.deal_all.new.workers.ok.0 in
     let went = Went (λ (h : W). h.listener) (λ (h : W). h.ticket.me) (λ (h : W). h.has_failed) (λ (h : W). h.pass.number) (λ (h : W). point_of h.pass) (λ v. g.L.Listener.given v) (λ v. g.L.Listener.closed v) (λ v. g.L.Listener.faults v)
-    P c.args.limit in
+    (Serves g.L.Input.Source.left g.L.Input.Source.faults g.L.Output.Sink.written g.L.Output.Sink.faults g.N.TableName.limits) c.args.limit in
     ended (λ (h : W). h.listener) (λ (h : W). h.ticket.me) (λ (h : W). h.has_failed) (λ (h : W). h.pass.number) (λ (h : W). point_of h.pass) (λ v. g.L.Listener.given v) (λ v. g.L.Listener.closed v) (λ v. g.L.Listener.faults v)
     (Serves g.L.Input.Source.left g.L.Input.Source.faults g.L.Output.Sink.written g.L.Output.Sink.faults g.N.TableName.limits) c.args.limit g.N.TableName.limits c.args.seed
     c.args.listeners.now.items c.give_back-drawn.new.listeners.items c.deal_all.new.workers.items _ c.give_back-drawn.result.0 (seen_by c.give_back-drawn.result.1) c.end_last.ensures (ap length whole ∙ same)
