@@ -236,6 +236,10 @@ down_push {W} number n hs hs' h d e last = subst (λ l. GoDown number n l) (sym 
     go zero (x ∷ xs) f last (suc k) d l = let no : ⊥ = omega arith in absurd no
     go (suc n) (x ∷ xs) f last (suc k) d l = let r = go n xs (λ j b m. let q = f (suc j) b (omega arith) in omega arith) (omega arith) k d (omega arith) in omega arith
 
+pub none_left : {X : Type 0} (xs : List X) → length xs ≡ 0 → xs ≡ []
+none_left [] e = refl
+none_left (x ∷ xs) e = let no : ⊥ = omega arith in absurd no
+
 pub met_none : {W : Type 0} (seen : W → GraphHistory) (hs : List W) (log : GraphHistory) → HaveMet seen hs hs log
 met_none seen hs log = record { rest = []; whole = sym (append-nil hs); each = λ k d l. let no : ⊥ = omega arith in absurd no }
 

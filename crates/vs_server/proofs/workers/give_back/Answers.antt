@@ -5,7 +5,7 @@ use Rattle.vs_tickets.specs.declared.View.{View}
 use Rattle.vs_tickets.specs.Rule.{share}
 use Rattle.vs_server.specs.Ended.{back, seen_by}
 use Rattle.vs_server.specs.declared.worker.Worker.{Worker}
-use Rattle.vs_server.proofs.Sums.{all_pop, length_pop, joined, parted_left, met_none, met_more, met_all}
+use Rattle.vs_server.proofs.Sums.{all_pop, length_pop, joined, parted_left, met_none, met_more, met_all, none_left}
 use Rattle.vs_server.proofs.workers.give_back.Goals as goal
 
 pub loop-listener-preserved : goal.loop-listener-preserved
@@ -45,14 +45,16 @@ loop-listener-init g c =
     let W = Worker g.row.N.Denot g.row.L.Denot g.row.L-Input.Denot g.row.L-Output.Denot in
     let seat = c.requires.all.1 in
     let n = length c.args.workers.items in
+    let below : c.args.all.now.me.0.below ≡ 0 = ap (λ (m : Me ℕ View). m.0.below) seat in
+    let past : c.args.all.now.me.0.past ≡ 0 = ap (λ (m : Me ℕ View). m.0.past) seat in
     let none : length c.args.listeners.now.items ≡ 0 = ap length c.requires.room.0 in
     let room = c.requires.room.1 in (
       c.requires.word.0.0,
       c.requires.all.0,
       c.requires.workers,
       seat ∙ sym (ap (λ (m : Me ℕ View). (share (4294967296 - n) m.0.below m.0.past c.args.limit, [])) seat),
-      ap (λ (m : Me ℕ View). m.0.below + sum_by (λ (w : W). w.ticket.me.0.below) c.args.workers.items) seat,
-      ap (λ (m : Me ℕ View). m.0.past + sum_by (λ (w : W). w.ticket.me.0.past) c.args.workers.items) seat,
+      omega arith,
+      omega arith,
       omega arith,
       record { whole = ap (λ l. l ++ back (λ (w : W). w.listener) c.args.workers.items) c.requires.room.0 },
       met_none (λ (w : W). w.pass.seen) c.args.workers.items [],
@@ -61,4 +63,5 @@ loop-listener-init g c =
 pub returns-clause-met : goal.returns-clause-met
 returns-clause-met g c =
     let W = Worker g.row.N.Denot g.row.L.Denot g.row.L-Input.Denot g.row.L-Output.Denot in
-    met_all (λ (w : W). w.pass.seen) c.loop-listener.workers.items c.args.workers.items (seen_by c.loop-listener.last) c.in_default.ensures.items c.loop-listener.invariant.8
+    let long : length c.loop-listener.workers.items ≡ 0 = omega (arith, c.in_default.ensures.cases.0, c.loop-listener.workers.ok.0) in
+    met_all (λ (w : W). w.pass.seen) c.loop-listener.workers.items c.args.workers.items (seen_by c.loop-listener.last) (none_left c.loop-listener.workers.items long) c.loop-listener.invariant.8
