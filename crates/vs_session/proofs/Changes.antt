@@ -9,6 +9,7 @@ use Rattle.vs_defs.specs.Memory.{needs_no_memory}
 use Rattle.vs_defs.specs.Refuse.{has_key, has_member}
 use Rattle.vs_defs.specs.PlainAnswer.{at_set, truth_number}
 use Rattle.vs_defs.specs.Answers.{IsAnswer}
+use Rattle.vs_defs.specs.Step.{Step, Drafted}
 use Rattle.vs_defs.specs.PlainStep.{changed, added, added_to, number_of_change, drawn_level}
 use Rattle.vs_thread_defs.specs.Machine.{StoreDoes, StoreChanges}
 use Rattle.vs_command.specs.declared.answer.Answer.{Answer}
@@ -67,10 +68,14 @@ long_is_none (Hits dim scores attrs hits) e i = absurd i
 long_is_none (Layers dim scores layers) e i = absurd i
 long_is_none (Informed info) e i = absurd i
 
-number_is_short : (old : Store Set) (r : request.Request) (words : List ℕ) (new : Store Set) (a : Answer) → StoreChanges old r words (answer_of a) new None → short_of (Ok a) ≡ None → ⊥
-number_is_short old r words new a c long =
+-- nor is it the answer of a change, by whatever draft
+pub step_is_short : (old : Store Set) (r : request.Request) (words : List ℕ) (new : Store Set) (drafted : Option Drafted) (a : Answer) → Step old r words (answer_of a) new drafted → short_of (Ok a) ≡ None → ⊥
+step_is_short old r words new drafted a step long =
     let n : IsNumber (changed (plain old) r words).1 = changed_number (plain old) r words in
-    long_is_none a long (subst IsBrief (sym (c.step.contents.answers ∙ n.1)) tt)
+    long_is_none a long (subst IsBrief (sym (step.contents.answers ∙ n.1)) tt)
+
+number_is_short : (old : Store Set) (r : request.Request) (words : List ℕ) (new : Store Set) (a : Answer) → StoreChanges old r words (answer_of a) new None → short_of (Ok a) ≡ None → ⊥
+number_is_short old r words new a c long = step_is_short old r words new None a c.step long
 
 -- so an answer that memory is refused for may be replaced
 pub long_changes_nothing : (old new : Store Set) (r : request.Request) (words : List ℕ) (result : Result Answer Refusal) →
@@ -109,10 +114,14 @@ brief_answer s (request.Vgetattr key name) words a none is = absurd (cc)
 brief_answer s (request.Vsetattr key name text) words a none is = absurd (cc)
 brief_answer s (request.Vrandmember key n) words a none is = absurd (cc)
 
+-- the answer of such a request that changes nothing
+pub brief_is_short : (s : Store Set) (r : request.Request) (words : List ℕ) (a : Answer) → needs_no_memory r ≡ true → IsAnswer s r words (answer_of a) → short_of (Ok a) ≡ None → ⊥
+brief_is_short s r words a none is long = long_is_none a long (brief_answer s r words (answer_of a) none is)
+
 pub short_reply_of : (old new : Store Set) (r : request.Request) (words : List ℕ) (result : Result Answer Refusal) →
     StoreDoes old r words (outcome_of result) new → needs_no_memory r ≡ true → short_of result ≢ None
 short_reply_of old new r words (Ok a) (inl c) none long = number_is_short old r words new a c long
-short_reply_of old new r words (Ok a) (inr (same, answers)) none long = long_is_none a long (brief_answer old r words (answer_of a) none answers.answer_is)
+short_reply_of old new r words (Ok a) (inr (same, answers)) none long = brief_is_short old r words a none answers.answer_is long
 short_reply_of old new r words (Err e) does none long = cc
 
 -- a short reply is the outcome's reply

@@ -1,3 +1,4 @@
 pub mod Does
 pub mod After
 pub mod Alone
+pub mod Shared

@@ -1,4 +1,5 @@
 pub mod Committing
+pub mod Looking
 pub mod Starved
 pub mod Wanting
 pub mod Tasks

@@ -17,7 +17,7 @@ use Rattle.vs_thread_defs.specs.Core.{IsDraftable, names_down}
 use Rattle.vs_thread_defs.specs.Interleaving.{can_draft_in}
 use Rattle.vs_thread_defs.specs.Machine.{GraphHistory, StoreDoes, store_of}
 use Rattle.vs_thread_defs.specs.Passes as begun
-use Rattle.vs_thread_defs.specs.Passes.{NowCall, LookCall, DraftCall, CommitCall}
+use Rattle.vs_thread_defs.specs.Passes.{NowCall, DraftCall, CommitCall}
 use Rattle.vs_command.specs.declared.answer.Answer.{Answer}
 use Rattle.vs_command.specs.declared.refusal.Refusal.{Refusal}
 use Rattle.vs_command.specs.declared.refusal.Refusal.TheVariants.{NoMemory}
@@ -27,12 +27,13 @@ use Rattle.vs_command.specs.Refusals.{refusal_of}
 use Rattle.vs_command.specs.Scores.{HasScores}
 use Rattle.vs_history.specs.Work.{DoesBy}
 use Rattle.vs_pass.specs.Task.{Holding, Works, at_once, watching}
-use Rattle.vs_pass.proofs.Tasks.{knowing, now_works, look_works, drafted_works, done_works, commit_works}
+use Rattle.vs_pass.proofs.Tasks.{knowing, now_works, drafted_works, done_works, commit_works}
 use Rattle.vs_shared.specs.declared.begun.Begun.{Begun}
 use Rattle.vs_shared.specs.declared.begun.Begun.TheVariants.{Drafted, Done}
 use Rattle.vs_shared.specs.Calls.{LookAnswers, DraftAnswers, BegunHasScores, IsReadyAfter, prepared_after}
 use Rattle.vs_shared.specs.Done.{look_work, draft_work, CommitsReady}
 use Rattle.vs_shared.proofs.Committing.{was_ready, was_there}
+use Rattle.vs_shared.proofs.Looking.{looks}
 use Rattle.vs_shared.proofs.Wanting.{out_of_memory}
 
 -- ---- calls of the store
@@ -73,10 +74,10 @@ module _ (limits : Limits) (n : ℕ) (s log : GraphHistory) (held : Holding limi
       (now_works limits n s log held old new r words o ends within drawn does (λ needs is. memory needs (out_of_memory result is)))
 
   pub look_done : (search : Search) (result : Result core.Looked Refusal) → IsSearchInBounds search → IfOk result (λ l. l.search ≡ search) → IfOk result (λ l. l.set ≡ set_of search.key old)
-      → IfErr result (λ e. IfSome (refusal_of e) (λ cause. store_refusal (plain old) (request.Vsim search) ≡ Some cause))
+      → IfOk result (λ l. store_refusal (plain old) (request.Vsim search) ≡ None) → IfErr result (λ e. IfSome (refusal_of e) (λ cause. store_refusal (plain old) (request.Vsim search) ≡ Some cause))
       → Works limits n log old old (look_work old search result old) (λ t. LookAnswers limits n s search result t)
-  look_done search (Ok looked) within search_is set_is refused = look_works limits n s log held old search looked ends search_is set_is
-  look_done search (Err e) within search_is set_is refused =
+  look_done search (Ok looked) within search_is set_is unrefused refused = looks limits n s log held old search looked ends search_is set_is unrefused
+  look_done search (Err e) within search_is set_is unrefused refused =
       now_works limits n s log held old old (request.Vsim search) [] (refused_by (refusal_of e)) ends within refl (refused_does old (request.Vsim search) [] (refusal_of e) refused) (λ needs. absurd (true≢false (sym needs)))
 
   module _ (add : Add) (drawn : ℕ) (within : IsAddInBounds add) where

@@ -1,0 +1,5 @@
+pub mod Chaining
+pub mod Counting
+pub mod Dealing
+pub mod Meeting
+pub mod Sums
