@@ -2,7 +2,8 @@
 --     AsksOnly r                  the request changes nothing, and draws nothing
 --     FactsOf s info              VINFO of the key
 --     FoundFirst truth s hits     the search for member 0
---     links_at i x                how many links member i of the set has at layer 0
+--     links_of_name x name        how many links the member of the name has at layer 0
+--     links_below n x             and the first n members together
 use Rattle.std.specs.Prelude.{◌≡◌, ℕ, Bool, false, List, [], Option, Some, length, map, codes, sum_by}
 use Rattle.std.specs.List.{range_with_len}
 use Rattle.vs_defs.specs.Bytes.{Bytes}
@@ -31,9 +32,9 @@ pub record FoundFirst (truth : Bool) (s : Store Set) (hits : List Hit) : Type 0 
   pub attrs : Bool
   pub answers : Answers s (search_of_first truth) [] (request.Hits dim scores attrs hits)
 
-abbrev pub links_at : ℕ → Set → ℕ
-links_at i x = length (neighbours x.contents.members (links_of x.wiring) 0 (member_name i))
+abbrev pub links_of_name : Set → Bytes → ℕ
+links_of_name x name = length (neighbours x.contents.members (links_of x.wiring) 0 name)
 
 -- of the first n members together
 abbrev pub links_below : ℕ → Set → ℕ
-links_below n x = sum_by (λ i. links_at i x) (range_with_len 0 n)
+links_below n x = sum_by (links_of_name x) (map member_name (range_with_len 0 n))

@@ -1,7 +1,7 @@
 //! Counts the links of all members at layer 0, which are each pair's two.
 ghost use Rattle.std.specs.Prelude.{◌≡◌, ◌≤◌, ◌++◌, decimal, Some, codes, IfOk, OnOk};
 ghost use Rattle.vs_defs.specs.Store.{Set, set_of};
-ghost use Rattle.vs_generate.specs.Asked.{links_at, links_below};
+ghost use Rattle.vs_generate.specs.Asked.{links_of_name, links_below};
 ghost use Rattle.vs_thread_defs.specs.Generator.{member_name};
 
 use crate::asking::{KEY, ask};
@@ -30,7 +30,7 @@ fn links_of_one(
     slot: &mut Slot,
 ) -> Result<usize, NoMemory>
     ensures same { OnOk result (store.new ≡ store.old) }
-    ensures links { IfOk result (λ links. (x : Set) → set_of (codes "g") store.old ≡ Some x → links ≡ links_at number x) }
+    ensures links { IfOk result (λ links. (x : Set) → set_of (codes "g") store.old ≡ Some x → links ≡ links_of_name x (member_name number)) }
 {
     let request = Request::Vlinks {
         key: Text::from_slice(alloc, KEY)?,
