@@ -1,18 +1,22 @@
 -- Options by their places in a list, and as the definitions find them.
-use Rattle.std.proofs.Common.{◌≡◌, ℕ, zero, suc, ◌+◌, ◌<◌, Bool, true, false, List, [], ◌∷◌, ◌++◌, ◌&&◌, ◌||◌, length, get_or, map, drop, take, ◌-◌, ◌≤◌, Option, Some, None, is_some, cond, refl, ap, sym, ◌∙◌, arith, codes}
+use Rattle.std.proofs.Common.{◌≡◌, ℕ, zero, suc, ◌+◌, ◌<◌, Bool, true, false, List, [], ◌∷◌, ◌++◌, ◌&&◌, ◌||◌, length, get_or, map, drop, take, ◌-◌, ◌≤◌, Option, Some, None, is_some, cond, min, option_map, refl, ap, sym, ◌∙◌, arith, codes}
 use Rattle.std.specs.List.{position, position_from, remove, starts_with}
 use Rattle.std.specs.Bool.{nat_eq}
 use Rattle.std.proofs.lemmas.List.Quantifiers.{position-Some}
+use Rattle.std.proofs.lemmas.List.{length-take}
 use Rattle.std.proofs.lemmas.Iterator.Adapters.{position_from-zero}
 use Rattle.std.proofs.Math.Seq.{take-length}
 use Rattle.std.proofs.lemmas.Slice.Eq.{bytes_eq-Decides}
-use Rattle.vs_laws.proofs.Options.{is_some_of_map}
+use Rattle.vs_defs.specs.Bounds.{IsFrom}
+use Rattle.vs_args.specs.declared.settings.Settings.{Settings}
+use Rattle.vs_args.specs.Settings.{IsSettings, Gives}
 use Rattle.vs_defs.specs.Bytes.{Bytes, same_name}
 use Rattle.vs_args.specs.declared.command.Choice as own
+use Rattle.vs_args.specs.declared.command.Choice.TheVariants as options
 use Rattle.vs_args.specs.declared.command.Command.{Command}
-use Rattle.vs_args.specs.declared.command.Command.TheVariants.{Script}
+use Rattle.vs_args.specs.declared.command.Command.TheVariants.{Script, Generate}
 use Rattle.vs_defs.specs.ProgramWords as defs
-use Rattle.vs_args.specs.Words.{are_plain, command_named, choices_of, choice_of, seen, is_named, joined_name}
+use Rattle.vs_args.specs.Words.{job_named, command_named, choices_of, choice_of, seen, is_named, joined_name, value_behind}
 use Rattle.vs_defs.specs.ProgramWords.{Choice, choice_named, choice_within, without_choice, settings_of, value_in, with_setting, job_by}
 
 -- the first choice that passes
@@ -87,28 +91,39 @@ with_some c None more = refl
 with_some c (Some v) None = refl
 with_some c (Some v) (Some rest) = refl
 
+pub joined_settings : (cs : List Choice) (w : Bytes) (ws : List Bytes) (c : Choice) → choice_within w cs ≡ Some c
+    → settings_of cs (w ∷ ws) ≡ with_setting c (value_in c (drop (length c.name) (drop 1 w))) (settings_of (without_choice c cs) ws)
+joined_settings cs w [] c e = rw e refl
+joined_settings cs w (v ∷ ws) c e = rw (e, settings_of) refl
+
+pub lone_settings : (cs : List Choice) (w : Bytes) → choice_within w cs ≡ None → settings_of cs (w ∷ []) ≡ None
+lone_settings cs w e = rw e refl
+
+pub named_settings : (cs : List Choice) (w v : Bytes) (ws : List Bytes) (c : Choice) → choice_within w cs ≡ None → choice_named w cs ≡ Some c
+    → settings_of cs (w ∷ v ∷ ws) ≡ with_setting c (value_in c v) (settings_of (without_choice c cs) ws)
+named_settings cs w v ws c e f = rw (e, f, settings_of) refl
+
+pub strange_settings : (cs : List Choice) (w v : Bytes) (ws : List Bytes) → choice_within w cs ≡ None → choice_named w cs ≡ None
+    → settings_of cs (w ∷ v ∷ ws) ≡ None
+strange_settings cs w v ws e f = rw (e, f, settings_of) refl
+
+-- whether there are settings
 pub joined_step : (cs : List Choice) (w : Bytes) (ws : List Bytes) (c : Choice) → choice_within w cs ≡ Some c
     → is_some (settings_of cs (w ∷ ws)) ≡ (is_some (value_in c (drop (length c.name) (drop 1 w))) && is_some (settings_of (without_choice c cs) ws))
-joined_step cs w [] c e = rw e (with_some c (value_in c (drop (length c.name) (drop 1 w))) (Some []))
-joined_step cs w (v ∷ ws) c e =
-    let value = value_in c (drop (length c.name) (drop 1 w)) in
-    let step : settings_of cs (w ∷ v ∷ ws) ≡ with_setting c value (settings_of (without_choice c cs) (v ∷ ws)) = rw (e, settings_of) refl in
-    ap is_some step ∙ with_some c value (settings_of (without_choice c cs) (v ∷ ws))
+joined_step cs w ws c e =
+    ap is_some (joined_settings cs w ws c e) ∙ with_some c (value_in c (drop (length c.name) (drop 1 w))) (settings_of (without_choice c cs) ws)
 
 pub lone_step : (cs : List Choice) (w : Bytes) → choice_within w cs ≡ None → is_some (settings_of cs (w ∷ [])) ≡ false
-lone_step cs w e = rw e refl
+lone_step cs w e = ap is_some (lone_settings cs w e)
 
 pub named_step : (cs : List Choice) (w v : Bytes) (ws : List Bytes) (c : Choice) → choice_within w cs ≡ None → choice_named w cs ≡ Some c
     → is_some (settings_of cs (w ∷ v ∷ ws)) ≡ (is_some (value_in c v) && is_some (settings_of (without_choice c cs) ws))
 named_step cs w v ws c e f =
-    let step : settings_of cs (w ∷ v ∷ ws) ≡ with_setting c (value_in c v) (settings_of (without_choice c cs) ws) = rw (e, f, settings_of) refl in
-    ap is_some step ∙ with_some c (value_in c v) (settings_of (without_choice c cs) ws)
+    ap is_some (named_settings cs w v ws c e f) ∙ with_some c (value_in c v) (settings_of (without_choice c cs) ws)
 
 pub strange_step : (cs : List Choice) (w v : Bytes) (ws : List Bytes) → choice_within w cs ≡ None → choice_named w cs ≡ None
     → is_some (settings_of cs (w ∷ v ∷ ws)) ≡ false
-strange_step cs w v ws e f =
-    let step : settings_of cs (w ∷ v ∷ ws) ≡ None = rw (e, f, settings_of) refl in
-    ap is_some step
+strange_step cs w v ws e f = ap is_some (strange_settings cs w v ws e f)
 
 -- the same of the program's options
 pub named_absent : (word : Bytes) (xs : List own.Choice) → position (is_named word) xs ≡ None → choice_named word (seen xs) ≡ None
@@ -132,12 +147,83 @@ joined_found word xs i x e is =
     let at = found choice_of (λ c. starts_with nat_eq word (c.name ++ codes "=")) (λ c d same. ap (λ n. starts_with nat_eq word (n ++ codes "=")) same) xs i x e in
     (sym (within word (seen xs)) ∙ at.0 ∙ ap (λ y. Some (choice_of y)) (sym is), sym (ap (λ y. without_choice (choice_of y) (seen xs)) is ∙ at.1))
 
--- words are plain where what stands behind a command names options of it
-script_step : (w : Bytes) (ws : List Bytes) (c : Command) (b : Bool) → same_name w (codes "script") ≡ b → cond b (Some Script) None ≡ Some c
-    → is_some (cond (b || false) (job_by w ws) None) ≡ is_some (settings_of (seen (choices_of c)) ws)
-script_step w ws Script true is e = rw is (is_some_of_map (λ s. defs.Script (defs.setting (codes "--seed") 0 s)) (settings_of (defs.seed ∷ []) ws))
-script_step w ws c false is e = cc
+-- a word is no shorter than what it begins with
+begins_within : (word front : Bytes) → starts_with nat_eq word front ≡ true → length front ≤ length word
+begins_within word front is =
+    let same : length front ≡ min (length front) (length word) = ap length ((bytes_eq-Decides front (take (length front) word)).0 is) ∙ length-take (length front) word in
+    min_within (length front) (length word) same where
+      min_within : (a b : ℕ) → a ≡ min a b → a ≤ b
+      min_within a b e = omega (arith, e)
 
-pub command_step : (w : Bytes) (ws : List Bytes) (c : Command) → command_named w ≡ Some c
-    → are_plain (w ∷ ws) ≡ is_some (settings_of (seen (choices_of c)) ws)
-command_step w ws c e = script_step w ws c (same_name w (codes "script")) refl e
+pub joined_covers : (word : Bytes) (xs : List own.Choice) (i : ℕ) (x : own.Choice) (name : Bytes) → position (λ c. starts_with nat_eq word (joined_name c)) xs ≡ Some i
+    → x ≡ get_or xs i x → name ≡ joined_name x → length name ≤ length word
+joined_covers word xs i x name e is named =
+    let at = position-Some (λ c. starts_with nat_eq word (joined_name c)) xs i x e in
+    let begins : starts_with nat_eq word name ≡ true = ap (starts_with nat_eq word) named ∙ ap (λ c. starts_with nat_eq word (joined_name c)) is ∙ at.1 in
+    begins_within word name begins
+
+pub value_part : (c : own.Choice) (word : Bytes) → drop (length (joined_name c)) word ≡ value_behind c word
+value_part options.Seed [] = refl
+value_part options.Seed (b ∷ bs) = refl
+value_part options.Members [] = refl
+value_part options.Members (b ∷ bs) = refl
+value_part options.Dim [] = refl
+value_part options.Dim (b ∷ bs) = refl
+
+-- the values that are read, where the first word is an option with its value
+pub gives_with : (c : Choice) (v : ℕ) (s new : Settings) (more : Option defs.Settings)
+    → ((list : defs.Settings) → IsSettings s list → IsSettings new ((c.name, v) ∷ list)) → Gives (Some s) more → Gives (Some new) (with_setting c (Some v) more)
+gives_with c v s new None on gives = gives
+gives_with c v s new (Some list) on gives = on list gives
+
+pub no_value : (c : Choice) (more : Option defs.Settings) → with_setting c None more ≡ None
+no_value c more = refl
+
+pub no_more : (c : Choice) (value : Option ℕ) → with_setting c value None ≡ None
+no_more c None = refl
+no_more c (Some v) = refl
+
+-- ---- the job of a command's settings
+
+abbrev pub job_with : Command → defs.Settings → defs.Job
+job_with Script s = defs.Script (defs.setting (codes "--seed") 0 s)
+job_with Generate s = defs.Generate (defs.setting (codes "--seed") 0 s) (defs.setting (codes "--members") 20000 s) (defs.setting (codes "--dim") 256 s)
+
+by_command : (w : Bytes) (ws : List Bytes) (c : Command) (a b : Bool) → same_name w (codes "script") ≡ a → same_name w (codes "generate") ≡ b
+    → cond a (Some Script) (cond b (Some Generate) None) ≡ Some c
+    → cond (a || (b || false)) (job_by w ws) None ≡ option_map (job_with c) (settings_of (seen (choices_of c)) ws)
+by_command w ws Script true b is is_b e = rw is refl
+by_command w ws Generate true b is is_b e = cc
+by_command w ws Script false true is is_b e = cc
+by_command w ws Generate false true is is_b e =
+    let word : w ≡ codes "generate" = (bytes_eq-Decides w (codes "generate")).0 is_b in
+    rw word refl
+by_command w ws c false false is is_b e = cc
+
+pub job_by_command : (w : Bytes) (ws : List Bytes) (c : Command) → command_named w ≡ Some c
+    → job_named (w ∷ ws) ≡ option_map (job_with c) (settings_of (seen (choices_of c)) ws)
+job_by_command w ws c e = by_command w ws c (same_name w (codes "script")) (same_name w (codes "generate")) refl refl e
+
+no_command : (w : Bytes) (ws : List Bytes) (a b : Bool) → cond a (Some Script) (cond b (Some Generate) None) ≡ None
+    → cond (a || (b || false)) (job_by w ws) None ≡ None
+no_command w ws true b e = cc
+no_command w ws false true e = cc
+no_command w ws false false e = refl
+
+pub no_job_by : (w : Bytes) (ws : List Bytes) → command_named w ≡ None → job_named (w ∷ ws) ≡ None
+no_job_by w ws e = no_command w ws (same_name w (codes "script")) (same_name w (codes "generate")) e
+
+-- the job of settings that were read
+pub script_of : (s : Settings) (o : Option defs.Settings) → Gives (Some s) o → Some (defs.Script s.seed) ≡ option_map (job_with Script) o
+script_of s None gives = absurd gives
+script_of s (Some list) gives = ap (λ n. Some (defs.Script n)) gives.seed
+
+pub generate_of : (s : Settings) (o : Option defs.Settings) → Gives (Some s) o → Some (defs.Generate s.seed s.members s.dim) ≡ option_map (job_with Generate) o
+generate_of s None gives = absurd gives
+generate_of s (Some list) gives =
+    ap (λ n. Some (defs.Generate n s.members s.dim)) gives.seed ∙ ap (λ n. Some (defs.Generate (defs.setting (codes "--seed") 0 list) n s.dim)) gives.members
+    ∙ ap (λ n. Some (defs.Generate (defs.setting (codes "--seed") 0 list) (defs.setting (codes "--members") 20000 list) n)) gives.dim
+
+pub in_ranges : (s : Settings) (o : Option defs.Settings) → Gives (Some s) o → IsFrom 1 1048576 s.members × IsFrom 1 4096 s.dim
+in_ranges s None gives = absurd gives
+in_ranges s (Some list) gives = (gives.members_within, gives.dim_within)

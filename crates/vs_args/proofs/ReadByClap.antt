@@ -18,17 +18,17 @@ use Rattle.clap.specs.Lexer.{long_of, short_of, strip_byte}
 use Rattle.clap.proofs.OnLiterals.{clap_on_literals}
 use Rattle.vs_defs.specs.Bytes.{Bytes, same_name}
 use Rattle.vs_defs.specs.Numeral.{is_empty}
-use Rattle.vs_defs.specs.ProgramWords.{seed, is_plain_number, settings_of, setting, with_setting, value_in, job_by, choice_within, choice_named}
-use Rattle.vs_defs.specs.ProgramWords.Job.{Script}
+use Rattle.vs_defs.specs.ProgramWords.{Settings, generate_choices, seed, is_plain_number, settings_of, setting, with_setting, value_in, job_by, choice_within, choice_named}
+use Rattle.vs_defs.specs.ProgramWords.Job.{Script, Generate}
 use Rattle.vs_defs.specs.Decimal.{number_of}
 use Rattle.vs_decimal.proofs.DigitLists.{digit_range}
-use Rattle.vs_laws.proofs.Options.{is_some_of_map, none_is}
+use Rattle.vs_laws.proofs.Options.{is_some_of_map}
 use Rattle.vs_args.proofs.Options.{lone_step, joined_step, named_step, strange_step}
 use Rattle.std.proofs.lemmas.List.{take-append-drop}
 use Rattle.std.proofs.lemmas.Bool.{and_from, and_parts}
 use Rattle.std.proofs.lemmas.Bool.Decides.{nat_tests}
 use Rattle.std.proofs.Math.Bool.{and-true, and-false}
-use Rattle.vs_args.specs.Words.{are_plain, job_named}
+use Rattle.vs_args.specs.Words.{job_named, IsScript}
 use Rattle.vs_args.specs.Arguments.{program}
 
 -- a word that doesn't begin with `-` is no option's name
@@ -255,20 +255,26 @@ settings_law [] e = (codes "0", record { read = reads_default; job = refl; taken
 settings_law (w ∷ []) e = lone_law w (starts_with nat_eq w (codes "--seed=")) refl e
 settings_law (w ∷ v ∷ ws) e = two_words_law w v ws (starts_with nat_eq w (codes "--seed=")) (same_name w (codes "--seed")) refl refl e
 
-script_law : (w : Bytes) (ws : List Bytes) (b : Bool) → same_name w (codes "script") ≡ b → is_some (cond (b || false) (job_by w ws) None) ≡ true → Seeded (w ∷ ws)
-script_law w ws false is e = cc
-script_law w ws true is e =
+no_script : (s : Option Settings) (seed : ℕ) → option_map (λ s. Generate (setting (codes "--seed") 0 s) (setting (codes "--members") 20000 s) (setting (codes "--dim") 256 s)) s
+    ≡ Some (Script seed) → ⊥
+no_script None seed e = cc
+no_script (Some s) seed e = cc
+
+script_law : (w : Bytes) (ws : List Bytes) (seed : ℕ) (b g : Bool) → same_name w (codes "script") ≡ b → same_name w (codes "generate") ≡ g
+    → cond (b || (g || false)) (job_by w ws) None ≡ Some (Script seed) → Seeded (w ∷ ws)
+script_law w ws n false false is is_g e = cc
+script_law w ws n false true is is_g e =
+    let word : w ≡ codes "generate" = (bytes_eq-Decides w (codes "generate")).0 is_g in
+    absurd (no_script (settings_of generate_choices ws) n (subst (λ x. job_by x ws ≡ Some (Script n)) word e))
+script_law w ws n true g is is_g e =
     let word : w ≡ codes "script" = (bytes_eq-Decides w (codes "script")).0 is in
-    let plain : is_some (job_by (codes "script") ws) ≡ true = subst (λ x. is_some (job_by x ws) ≡ true) word e in
-    subst (λ x. Seeded (x ∷ ws)) (sym word) (settings_law ws (sym (is_some_of_map (λ s. Script (setting (codes "--seed") 0 s)) (settings_of (seed ∷ []) ws)) ∙ plain))
+    let job : job_by (codes "script") ws ≡ Some (Script n) = subst (λ x. job_by x ws ≡ Some (Script n)) word e in
+    subst (λ x. Seeded (x ∷ ws)) (sym word) (settings_law ws (sym (is_some_of_map (λ s. Script (setting (codes "--seed") 0 s)) (settings_of (seed ∷ []) ws)) ∙ ap is_some job))
 
--- plain words have a seed, which `clap` reads
-pub seed_law : (words : List Bytes) → are_plain words ≡ true → Seeded words
-seed_law [] e = cc
-seed_law (w ∷ ws) e = script_law w ws (same_name w (codes "script")) refl e
+-- plain words of `script` have a seed, which `clap` reads
+pub seed_law : (words : List Bytes) → IsScript words → Seeded words
+seed_law [] e = cc (e.1)
+seed_law (w ∷ ws) e = script_law w ws e.0 (same_name w (codes "script")) (same_name w (codes "generate")) refl refl e.1
 
-pub words_utf8 : (words : List Bytes) → are_plain words ≡ true → All IsUtf8 words
+pub words_utf8 : (words : List Bytes) → IsScript words → All IsUtf8 words
 words_utf8 words e = (seed_law words e).1.utf8
-
-pub no_job : (words : List Bytes) → are_plain words ≡ false → job_named words ≡ None
-no_job words e = none_is (job_named words) e

@@ -2,16 +2,17 @@
 --     built                    their names: a command that is built later is added here
 --     job_named words          the job that plain words name; None where the words aren't plain
 --     are_plain words          whether they are plain
-use Rattle.std.specs.Prelude.{◌≡◌, Bool, List, [], ◌∷◌, ◌++◌, Option, Some, None, is_some, map, codes, cond, drop, length}
+--     IsScript words           they are plain words of `script`
+use Rattle.std.specs.Prelude.{◌≡◌, ℕ, Bool, List, [], ◌∷◌, ◌++◌, Option, Some, None, is_some, map, codes, cond, drop, length}
 use Rattle.vs_defs.specs.Bytes.{Bytes, same_name}
 use Rattle.vs_defs.specs.ProgramWords as defs
 use Rattle.vs_args.specs.declared.command.Command.{Command}
-use Rattle.vs_args.specs.declared.command.Command.TheVariants.{Script}
+use Rattle.vs_args.specs.declared.command.Command.TheVariants.{Script, Generate}
 use Rattle.vs_args.specs.declared.command.Choice.{Choice}
-use Rattle.vs_args.specs.declared.command.Choice.TheVariants.{Seed}
+use Rattle.vs_args.specs.declared.command.Choice.TheVariants.{Seed, Members, Dim}
 
 abbrev pub built : List Bytes
-built = codes "script" ∷ []
+built = codes "script" ∷ codes "generate" ∷ []
 
 abbrev pub job_named : List Bytes → Option defs.Job
 job_named words = defs.job_among built words
@@ -19,15 +20,22 @@ job_named words = defs.job_among built words
 abbrev pub are_plain : List Bytes → Bool
 are_plain words = is_some (job_named words)
 
+-- plain words of `script`
+abbrev pub IsScript : List Bytes → Type 0
+IsScript words = (seed : ℕ) × (job_named words ≡ Some (defs.Script seed))
+
 -- the definitions' option that an option of the program is
 abbrev pub choice_of : Choice → defs.Choice
 choice_of Seed = defs.seed
+choice_of Members = record { name = codes "--members"; least = 1; most = 1048576 }
+choice_of Dim = record { name = codes "--dim"; least = 1; most = 4096 }
 
 abbrev pub command_named : Bytes → Option Command
-command_named word = cond (same_name word (codes "script")) (Some Script) None
+command_named word = cond (same_name word (codes "script")) (Some Script) (cond (same_name word (codes "generate")) (Some Generate) None)
 
 abbrev pub choices_of : Command → List Choice
 choices_of Script = Seed ∷ []
+choices_of Generate = Seed ∷ Members ∷ Dim ∷ []
 
 -- the words `--option` and `--option=`, as the definitions' options are named by them
 abbrev pub is_named : Bytes → Choice → Bool

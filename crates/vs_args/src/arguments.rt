@@ -4,7 +4,7 @@ ghost use Rattle.clap.specs.Words.{app_of, rule_of, subcommand_of, subcommand_ro
 ghost use Rattle.clap.specs.declared.builder.command.Command.TheViews.{out-Command};
 ghost use Rattle.vs_defs.specs.ProgramWords.{value_in, seed as seed_choice, Job};
 ghost use Rattle.vs_defs.specs.ProgramWords.Job.{Script};
-ghost use Rattle.vs_args.specs.Words.{are_plain, job_named};
+ghost use Rattle.vs_args.specs.Words.{job_named, IsScript};
 ghost use Rattle.vs_args.specs.Arguments as spec;
 
 use clap::error::ErrorKind;
@@ -59,9 +59,9 @@ fn matches<'a>(alloc: Global, words: &'a [&'a str]) -> Result<ArgMatches<'a>, Er
     program(alloc)?.try_get_matches_from(words)
 }
 
-/// The text of the seed in plain words, or its default; only want of memory is refused.
+/// The text of the seed in plain words of `script`, or its default; only want of memory is refused.
 pub fn seed_text<'a>(alloc: Global, words: &'a [&'a str]) -> Result<&'a str, Error>
-    requires { are_plain (map (λ w. w.now) words.now) ≡ true }
+    requires { IsScript (map (λ w. w.now) words.now) }
     ensures text { IfOk result (λ text. option_map Script (value_in seed_choice text.now) ≡ job_named (map (λ w. w.now) words.entry.now)) }
     ensures err { IfErr result (λ e. kind_of e ≡ ErrorKind.OutOfMemory) }
 {

@@ -1,5 +1,5 @@
 //! The commands that are built, and their options.
-ghost use Rattle.std.specs.Prelude.{◌≡◌, ◌++◌, ◌<◌, ◌≤◌, List, [], ◌∷◌, codes, option_map, Some, None, is_some, cond};
+ghost use Rattle.std.specs.Prelude.{◌≡◌, ◌++◌, ◌<◌, ◌≤◌, List, [], ◌∷◌, codes, option_map, Some, None, is_some, cond, IfSome};
 ghost use Rattle.std.specs.List.{starts_with, position};
 ghost use Rattle.std.specs.Bool.{nat_eq};
 ghost use Rattle.vs_defs.specs.ProgramWords.{value_in};
@@ -12,6 +12,7 @@ use arrayvec::ArrayVec;
 #[derive(Clone, Copy, Debug, PartialEq, Eq)]
 pub enum Command {
     Script,
+    Generate,
 }
 
 /// An option of a command.
@@ -19,6 +20,8 @@ pub enum Command {
 pub enum Choice {
     #[default]
     Seed,
+    Members,
+    Dim,
 }
 
 /// The options that may still be named: at most four.
@@ -30,6 +33,8 @@ pub fn command_named(word: &[u8]) -> Option<Command>
 {
     if word == b"script".as_slice() {
         Some(Command::Script)
+    } else if word == b"generate".as_slice() {
+        Some(Command::Generate)
     } else {
         None
     }
@@ -43,6 +48,11 @@ impl Command {
         let mut choices = ArrayVec::new();
         match self {
             Command::Script => choices.push(Choice::Seed),
+            Command::Generate => {
+                choices.push(Choice::Seed);
+                choices.push(Choice::Members);
+                choices.push(Choice::Dim);
+            }
         }
         choices
     }
@@ -55,6 +65,8 @@ impl Choice {
     {
         match self {
             Choice::Seed => b"--seed",
+            Choice::Members => b"--members",
+            Choice::Dim => b"--dim",
         }
     }
 
@@ -64,6 +76,8 @@ impl Choice {
     {
         match self {
             Choice::Seed => b"--seed=",
+            Choice::Members => b"--members=",
+            Choice::Dim => b"--dim=",
         }
     }
 
@@ -74,12 +88,16 @@ impl Choice {
     {
         match self {
             Choice::Seed => (0, u64::MAX),
+            Choice::Members => (1, 1_048_576),
+            Choice::Dim => (1, 4096),
         }
     }
 
     /// The value that a text spells, where it is in the option's range.
     pub fn value(self, text: &[u8]) -> Option<u64>
-        ensures { result ≡ value_in (choice_of self) text.now }
+        ensures value { result ≡ value_in (choice_of self) text.now }
+        ensures least { IfSome result (λ value. (choice_of self).least ≤ value) }
+        ensures most { IfSome result (λ value. value ≤ (choice_of self).most) }
     {
         let (least, most) = self.range();
         read_number(text).filter(|value| least <= *value && *value <= most)

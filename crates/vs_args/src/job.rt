@@ -1,11 +1,13 @@
 //! The job that the program's words name.
-ghost use Rattle.std.specs.Prelude.{◌≡◌, true, IfOk, IfErr, map, All};
+ghost use Rattle.std.specs.Prelude.{◌≡◌, Some, IfOk, IfErr, map, All};
 ghost use Rattle.std.specs.Str.{IsUtf8};
-ghost use Rattle.vs_args.specs.Readings.{IsReading};
+ghost use Rattle.vs_defs.specs.ProgramWords.Job.{Script as ScriptOf};
+ghost use Rattle.vs_args.specs.Readings.{IsReading, IsWithin};
+ghost use Rattle.vs_args.specs.Words.{job_named, IsScript};
 
 use crate::arguments::seed_text;
 use crate::command::Choice;
-use crate::plain::are_plain;
+use crate::plain::plain_job;
 use std::alloc::Global;
 use std::str;
 use thiserror::Error;
@@ -16,6 +18,8 @@ use vs_outside::{NoMemory, Text};
 pub enum Job {
     /// Serve standard input, with random words of this seed.
     Script { seed: u64 },
+    /// Build a set of so many generated members, of so many components, and print its summary.
+    Generate { seed: u64, members: u32, dim: u32 },
 }
 
 /// Why words name no job.
@@ -43,21 +47,36 @@ fn texts_of<'a>(alloc: Global, words: &'a [Text]) -> Result<Vec<&'a str>, WordsE
     Ok(texts)
 }
 
-/// Reads the program's words: first a command that is built, then options of it with their values, as two words or as one word
-/// `--option=value`, each at most once and in any order. A value is decimal digits without a leading zero, in the option's range; an option
-/// that isn't named has its default.
-pub fn read_words(alloc: Global, words: &[Text]) -> Result<Job, WordsError>
-    ensures { IsReading words.now result }
+// The seed that plain words of `script` name, as `clap` reads them.
+fn read_seed(alloc: Global, words: &[Text]) -> Result<u64, WordsError>
+    requires { IsScript words.now }
+    ensures ok { IfOk result (λ seed. job_named words.now ≡ Some (ScriptOf seed)) }
+    ensures err { IfErr result (λ e. e ≡ WordsError.NoMemory) }
 {
-    if !are_plain(words) {
-        return Err(WordsError::BadWords);
-    }
     let texts = texts_of(alloc, words)?;
     let Ok(text) = seed_text(alloc, &texts) else {
         return Err(WordsError::NoMemory);
     };
     match Choice::Seed.value(text.as_bytes()) {
-        Some(seed) => Ok(Job::Script { seed }),
+        Some(seed) => Ok(seed),
         None => unreachable!(),
+    }
+}
+
+/// Reads the program's words: first a command that is built, then options of it with their values, as two words or as one word
+/// `--option=value`, each at most once and in any order. A value is decimal digits without a leading zero, in the option's range; an option
+/// that isn't named has its default.
+pub fn read_words(alloc: Global, words: &[Text]) -> Result<Job, WordsError>
+    ensures reading { IsReading words.now result }
+    ensures within { IfOk result IsWithin }
+{
+    let Some(job) = plain_job(words) else {
+        return Err(WordsError::BadWords);
+    };
+    match job {
+        Job::Script { .. } => Ok(Job::Script {
+            seed: read_seed(alloc, words)?,
+        }),
+        Job::Generate { .. } => Ok(job),
     }
 }

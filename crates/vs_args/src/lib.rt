@@ -6,6 +6,7 @@ mod command;
 mod job;
 mod number;
 mod plain;
+mod settings;
 
 pub use job::{Job, WordsError, read_words};
 

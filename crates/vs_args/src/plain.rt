@@ -1,9 +1,13 @@
-//! Whether words are plain: a command, and options of it with their values.
-ghost use Rattle.std.specs.Prelude.{◌≡◌, IfSome, option_map, is_some};
+//! Reads plain words: a command, and options of it with their values.
+ghost use Rattle.std.specs.Prelude.{◌≡◌, IfSome, option_map};
 ghost use Rattle.vs_defs.specs.ProgramWords.{choice_named, choice_within, settings_of};
-ghost use Rattle.vs_args.specs.Words.{are_plain as plain, seen, IsTaken, value_behind};
+ghost use Rattle.vs_args.specs.Readings.{job_of, IsWithin};
+ghost use Rattle.vs_args.specs.Settings.{Gives};
+ghost use Rattle.vs_args.specs.Words.{job_named, seen, IsTaken, value_behind};
 
-use crate::command::{Choice, Choices, command_named, place_joined, place_named};
+use crate::Job;
+use crate::command::{Choice, Choices, Command, command_named, place_joined, place_named};
+use crate::settings::Settings;
 use vs_outside::Text;
 
 // Takes out the option that a word names.
@@ -21,38 +25,42 @@ fn take_joined<'a>(left: &mut Choices, word: &'a [u8]) -> Option<(Choice, &'a [u
 {
     let place = place_joined(left.as_slice(), word)?;
     let choice = left.remove(place);
-    Some((choice, &word[choice.joined_name().len()..]))
+    let (_, value) = word.split_at(choice.joined_name().len());
+    Some((choice, value))
 }
 
-// Whether the words name options that are left, each with a value in its range.
-fn are_settings(mut left: Choices, words: &[Text]) -> bool
-    ensures { result ≡ is_some (settings_of (seen left.items) words.now) }
+// The values that words give to options that are left; `None` where they aren't plain.
+fn read_settings(mut left: Choices, words: &[Text]) -> Option<Settings>
+    ensures { Gives result (settings_of (seen left.items) words.now) }
 {
     let [word, rest @ ..] = words else {
-        return true;
+        return Some(Settings::usual());
     };
     let word = word.as_slice();
-    if let Some((choice, value)) = take_joined(&mut left, word) {
-        return choice.value(value).is_some() && are_settings(left, rest);
+    if let Some((choice, text)) = take_joined(&mut left, word) {
+        let value = choice.value(text)?;
+        return Some(read_settings(left, rest)?.with(choice, value));
     }
-    let [value, rest @ ..] = rest else {
-        return false;
+    let [text, rest @ ..] = rest else {
+        return None;
     };
-    match take_named(&mut left, word) {
-        Some(choice) => choice.value(value.as_slice()).is_some() && are_settings(left, rest),
-        None => false,
-    }
+    let choice = take_named(&mut left, word)?;
+    let value = choice.value(text.as_slice())?;
+    Some(read_settings(left, rest)?.with(choice, value))
 }
 
-/// Whether the words name a job.
-pub fn are_plain(words: &[Text]) -> bool
-    ensures { result ≡ plain words.now }
+/// The job that the words name.
+pub fn plain_job(words: &[Text]) -> Option<Job>
+    ensures job { option_map job_of result ≡ job_named words.now }
+    ensures within { IfSome result IsWithin }
 {
     let [word, rest @ ..] = words else {
-        return false;
+        return None;
     };
-    match command_named(word.as_slice()) {
-        Some(command) => are_settings(command.choices(), rest),
-        None => false,
-    }
+    let command = command_named(word.as_slice())?;
+    let Settings { seed, members, dim } = read_settings(command.choices(), rest)?;
+    Some(match command {
+        Command::Script => Job::Script { seed },
+        Command::Generate => Job::Generate { seed, members, dim },
+    })
 }

@@ -33,12 +33,42 @@ fn seeds(rt: HostRuntime) -> Result<(), Fail> {
 }
 
 #[test]
+fn generated_sets(rt: HostRuntime) -> Result<(), Fail> {
+    let cases: [(&[&str], u64, u32, u32); 9] = [
+        (&["generate"], 0, 20_000, 256),
+        (&["generate", "--seed", "7"], 7, 20_000, 256),
+        (&["generate", "--members=1"], 0, 1, 256),
+        (&["generate", "--members", "1048576"], 0, 1_048_576, 256),
+        (&["generate", "--dim", "1"], 0, 20_000, 1),
+        (&["generate", "--dim=4096"], 0, 20_000, 4096),
+        (&["generate", "--dim=33", "--seed=5"], 5, 20_000, 33),
+        (
+            &["generate", "--dim", "2", "--members=17", "--seed", "9"],
+            9,
+            17,
+            2,
+        ),
+        (
+            &["generate", "--seed=18446744073709551615", "--members", "2"],
+            u64::MAX,
+            2,
+            256,
+        ),
+    ];
+    for (words, seed, members, dim) in cases {
+        let texts = texts(rt.alloc(), words)?;
+        let job = read_words(rt.alloc(), texts.as_slice());
+        assert_eq!(rt; job, Ok(Job::Generate { seed, members, dim }));
+    }
+    Ok(())
+}
+
+#[test]
 fn bad_words(rt: HostRuntime) -> Result<(), Fail> {
-    let cases: [&[&str]; 24] = [
+    let cases: [&[&str]; 44] = [
         &[],
         &[""],
         &["schedule"],
-        &["generate"],
         &["serve"],
         &["Script"],
         &["script", ""],
@@ -59,6 +89,27 @@ fn bad_words(rt: HostRuntime) -> Result<(), Fail> {
         &["script", "--seed=1", "--seed=2"],
         &["script", "--members", "1"],
         &["--seed", "1", "script"],
+        &["generate", "generate"],
+        &["generate", "--"],
+        &["generate", "--seed"],
+        &["generate", "--seed", "01"],
+        &["generate", "--seed=18446744073709551616"],
+        &["generate", "--members"],
+        &["generate", "--members="],
+        &["generate", "--members", "0"],
+        &["generate", "--members=1048577"],
+        &["generate", "--members", "017"],
+        &["generate", "--members", "-1"],
+        &["generate", "--members=+1"],
+        &["generate", "--dim"],
+        &["generate", "--dim="],
+        &["generate", "--dim=0"],
+        &["generate", "--dim", "4097"],
+        &["generate", "--dim", "a"],
+        &["generate", "--dim=1", "--dim", "1"],
+        &["generate", "--members", "1", "--seed", "1", "--members=1"],
+        &["generate", "--port", "1"],
+        &["generate", "--dim", "1", "2"],
     ];
     for words in cases {
         let texts = texts(rt.alloc(), words)?;

@@ -1,0 +1,4 @@
+mod Words
+mod Growing
+mod Linking
+mod Summing
