@@ -7,12 +7,12 @@ use Rattle.std.specs.Prelude.{◌≡◌, ℕ, Bool, List, [], ◌∷◌, ◌++�
 use Rattle.vs_defs.specs.Bytes.{Bytes, same_name}
 use Rattle.vs_defs.specs.ProgramWords as defs
 use Rattle.vs_args.specs.declared.command.Command.{Command}
-use Rattle.vs_args.specs.declared.command.Command.TheVariants.{Script, Generate}
+use Rattle.vs_args.specs.declared.command.Command.TheVariants.{Script, Generate, Serve}
 use Rattle.vs_args.specs.declared.command.Choice.{Choice}
-use Rattle.vs_args.specs.declared.command.Choice.TheVariants.{Seed, Members, Dim}
+use Rattle.vs_args.specs.declared.command.Choice.TheVariants.{Seed, Members, Dim, Port, Workers, Connections}
 
 abbrev pub built : List Bytes
-built = codes "script" ∷ codes "generate" ∷ []
+built = codes "script" ∷ codes "generate" ∷ codes "serve" ∷ []
 
 abbrev pub job_named : List Bytes → Option defs.Job
 job_named words = defs.job_among built words
@@ -29,13 +29,19 @@ abbrev pub choice_of : Choice → defs.Choice
 choice_of Seed = defs.seed
 choice_of Members = record { name = codes "--members"; least = 1; most = 1048576 }
 choice_of Dim = record { name = codes "--dim"; least = 1; most = 4096 }
+choice_of Port = record { name = codes "--port"; least = 1; most = 65535 }
+choice_of Workers = record { name = codes "--workers"; least = 1; most = 64 }
+choice_of Connections = record { name = codes "--connections"; least = 1; most = 4294967295 }
 
 abbrev pub command_named : Bytes → Option Command
-command_named word = cond (same_name word (codes "script")) (Some Script) (cond (same_name word (codes "generate")) (Some Generate) None)
+command_named word =
+    cond (same_name word (codes "script")) (Some Script)
+    (cond (same_name word (codes "generate")) (Some Generate) (cond (same_name word (codes "serve")) (Some Serve) None))
 
 abbrev pub choices_of : Command → List Choice
 choices_of Script = Seed ∷ []
 choices_of Generate = Seed ∷ Members ∷ Dim ∷ []
+choices_of Serve = Port ∷ Workers ∷ Seed ∷ Connections ∷ []
 
 -- the words `--option` and `--option=`, as the definitions' options are named by them
 abbrev pub is_named : Bytes → Choice → Bool

@@ -13,6 +13,7 @@ use arrayvec::ArrayVec;
 pub enum Command {
     Script,
     Generate,
+    Serve,
 }
 
 /// An option of a command.
@@ -22,6 +23,9 @@ pub enum Choice {
     Seed,
     Members,
     Dim,
+    Port,
+    Workers,
+    Connections,
 }
 
 /// The options that may still be named: at most four.
@@ -35,6 +39,8 @@ pub fn command_named(word: &[u8]) -> Option<Command>
         Some(Command::Script)
     } else if word == b"generate".as_slice() {
         Some(Command::Generate)
+    } else if word == b"serve".as_slice() {
+        Some(Command::Serve)
     } else {
         None
     }
@@ -53,6 +59,12 @@ impl Command {
                 choices.push(Choice::Members);
                 choices.push(Choice::Dim);
             }
+            Command::Serve => {
+                choices.push(Choice::Port);
+                choices.push(Choice::Workers);
+                choices.push(Choice::Seed);
+                choices.push(Choice::Connections);
+            }
         }
         choices
     }
@@ -67,6 +79,9 @@ impl Choice {
             Choice::Seed => b"--seed",
             Choice::Members => b"--members",
             Choice::Dim => b"--dim",
+            Choice::Port => b"--port",
+            Choice::Workers => b"--workers",
+            Choice::Connections => b"--connections",
         }
     }
 
@@ -78,6 +93,9 @@ impl Choice {
             Choice::Seed => b"--seed=",
             Choice::Members => b"--members=",
             Choice::Dim => b"--dim=",
+            Choice::Port => b"--port=",
+            Choice::Workers => b"--workers=",
+            Choice::Connections => b"--connections=",
         }
     }
 
@@ -90,6 +108,9 @@ impl Choice {
             Choice::Seed => (0, u64::MAX),
             Choice::Members => (1, 1_048_576),
             Choice::Dim => (1, 4096),
+            Choice::Port => (1, 65_535),
+            Choice::Workers => (1, 64),
+            Choice::Connections => (1, 4_294_967_295),
         }
     }
 

@@ -17,9 +17,22 @@ use vs_outside::{NoMemory, Text};
 #[derive(Clone, Copy, Debug, PartialEq, Eq)]
 pub enum Job {
     /// Serve standard input, with random words of this seed.
-    Script { seed: u64 },
+    Script {
+        seed: u64,
+    },
     /// Build a set of so many generated members, of so many components, and print its summary.
-    Generate { seed: u64, members: u32, dim: u32 },
+    Generate {
+        seed: u64,
+        members: u32,
+        dim: u32,
+    },
+    /// Serve this port by so many workers, with random words of this seed, until so many connections were served.
+    Serve {
+        port: u16,
+        workers: u32,
+        seed: u64,
+        connections: u32,
+    },
 }
 
 /// Why words name no job.
@@ -77,6 +90,6 @@ pub fn read_words(alloc: Global, words: &[Text]) -> Result<Job, WordsError>
         Job::Script { .. } => Ok(Job::Script {
             seed: read_seed(alloc, words)?,
         }),
-        Job::Generate { .. } => Ok(job),
+        Job::Generate { .. } | Job::Serve { .. } => Ok(job),
     }
 }

@@ -58,9 +58,22 @@ pub fn plain_job(words: &[Text]) -> Option<Job>
         return None;
     };
     let command = command_named(word.as_slice())?;
-    let Settings { seed, members, dim } = read_settings(command.choices(), rest)?;
+    let Settings {
+        seed,
+        members,
+        dim,
+        port,
+        workers,
+        connections,
+    } = read_settings(command.choices(), rest)?;
     Some(match command {
         Command::Script => Job::Script { seed },
         Command::Generate => Job::Generate { seed, members, dim },
+        Command::Serve => Job::Serve {
+            port,
+            workers,
+            seed,
+            connections,
+        },
     })
 }

@@ -12,6 +12,9 @@ pub struct Settings {
     pub seed: u64,
     pub members: u32,
     pub dim: u32,
+    pub port: u16,
+    pub workers: u32,
+    pub connections: u32,
 }
 
 impl Settings {
@@ -23,6 +26,9 @@ impl Settings {
             seed: 0,
             members: 20_000,
             dim: 256,
+            port: 6379,
+            workers: 8,
+            connections: u32::MAX,
         }
     }
 
@@ -43,6 +49,18 @@ impl Settings {
             },
             Choice::Dim => Settings {
                 dim: value as u32,
+                ..self
+            },
+            Choice::Port => Settings {
+                port: value as u16,
+                ..self
+            },
+            Choice::Workers => Settings {
+                workers: value as u32,
+                ..self
+            },
+            Choice::Connections => Settings {
+                connections: value as u32,
                 ..self
             },
         }

@@ -64,12 +64,58 @@ fn generated_sets(rt: HostRuntime) -> Result<(), Fail> {
 }
 
 #[test]
+fn servers(rt: HostRuntime) -> Result<(), Fail> {
+    let cases: [(&[&str], u16, u32, u64, u32); 9] = [
+        (&["serve"], 6379, 8, 0, u32::MAX),
+        (&["serve", "--port", "1"], 1, 8, 0, u32::MAX),
+        (&["serve", "--port=65535"], 65_535, 8, 0, u32::MAX),
+        (&["serve", "--workers=1"], 6379, 1, 0, u32::MAX),
+        (&["serve", "--workers", "64"], 6379, 64, 0, u32::MAX),
+        (&["serve", "--seed=7"], 6379, 8, 7, u32::MAX),
+        (&["serve", "--connections", "1"], 6379, 8, 0, 1),
+        (
+            &["serve", "--connections=4294967295"],
+            6379,
+            8,
+            0,
+            4_294_967_295,
+        ),
+        (
+            &[
+                "serve",
+                "--connections=3",
+                "--seed",
+                "18446744073709551615",
+                "--workers=2",
+                "--port",
+                "80",
+            ],
+            80,
+            2,
+            u64::MAX,
+            3,
+        ),
+    ];
+    for (words, port, workers, seed, connections) in cases {
+        let texts = texts(rt.alloc(), words)?;
+        let job = read_words(rt.alloc(), texts.as_slice());
+        let wanted = Job::Serve {
+            port,
+            workers,
+            seed,
+            connections,
+        };
+        assert_eq!(rt; job, Ok(wanted));
+    }
+    Ok(())
+}
+
+#[test]
 fn bad_words(rt: HostRuntime) -> Result<(), Fail> {
-    let cases: [&[&str]; 44] = [
+    let cases: [&[&str]; 57] = [
         &[],
         &[""],
         &["schedule"],
-        &["serve"],
         &["Script"],
         &["script", ""],
         &["script", "script"],
@@ -110,6 +156,20 @@ fn bad_words(rt: HostRuntime) -> Result<(), Fail> {
         &["generate", "--members", "1", "--seed", "1", "--members=1"],
         &["generate", "--port", "1"],
         &["generate", "--dim", "1", "2"],
+        &["serve", "serve"],
+        &["serve", "--port"],
+        &["serve", "--port="],
+        &["serve", "--port", "0"],
+        &["serve", "--port=65536"],
+        &["serve", "--port", "080"],
+        &["serve", "--workers", "0"],
+        &["serve", "--workers=65"],
+        &["serve", "--seed", "18446744073709551616"],
+        &["serve", "--connections=0"],
+        &["serve", "--connections", "4294967296"],
+        &["serve", "--connections", "1", "--connections", "1"],
+        &["serve", "--port=1", "--workers=1", "--port", "1"],
+        &["serve", "--members", "1"],
     ];
     for words in cases {
         let texts = texts(rt.alloc(), words)?;
