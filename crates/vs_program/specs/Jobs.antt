@@ -41,10 +41,16 @@ Prints seed members dim WriteFault written written' =
 Prints seed members dim NoMemory written written' = written' ≡ written
 Prints seed members dim status written written' = ⊥
 
+-- a job of another call isn't done here
+abbrev pub LeavesJob : Status → Option Bytes → Option Bytes → Option Bytes → Option Bytes → Type 0
+LeavesJob BadWords left left' written written' = (left' ≡ left) × Refuses written written'
+LeavesJob NoMemory left left' written written' = (left' ≡ left) × (written' ≡ written)
+LeavesJob status left left' written written' = ⊥
+
 -- a command that isn't built is named by no job
 abbrev pub Does : Option Job → Status → Option Bytes → Option Bytes → Option Bytes → Option Bytes → Type 0
 Does None status left left' written written' = (status ≡ BadWords) × (left' ≡ left) × Refuses written written'
 Does (Some (Script seed)) status left left' written written' = ServesAlone seed status left left' written written'
 Does (Some Schedule) status left left' written written' = ⊥
 Does (Some (Generate seed members dim)) status left left' written written' = (left' ≡ left) × Prints seed members dim status written written'
-Does (Some (Serve port workers seed connections)) status left left' written written' = ⊥
+Does (Some (Serve port workers seed connections)) status left left' written written' = LeavesJob status left left' written written'

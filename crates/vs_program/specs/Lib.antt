@@ -1,3 +1,4 @@
 pub mod Status
 pub mod Jobs
+pub mod Server
 pub mod Program

@@ -1,9 +1,12 @@
 -- How the program ends, and its exit status.
+--     status_of, served_of     the status of a connection's end, and of a server's
 use Rattle.std.specs.Prelude.{ℕ}
 use Rattle.vs_program.specs.declared.status.Status.{Status}
-use Rattle.vs_program.specs.declared.status.Status.TheVariants.{Done, BadWords, Protocol, CutShort, ReadFault, WriteFault, NoMemory, Spent}
+use Rattle.vs_program.specs.declared.status.Status.TheVariants.{Done, BadWords, Protocol, CutShort, ReadFault, WriteFault, NoMemory, Spent, AcceptFault, BindFault}
 use Rattle.vs_connection.specs.declared.end.SessionEnd.{SessionEnd}
 use Rattle.vs_connection.specs.declared.end.SessionEnd.TheVariants as ends
+use Rattle.vs_server.specs.declared.serve.ServeEnd.{ServeEnd}
+use Rattle.vs_server.specs.declared.serve.ServeEnd.TheVariants as served
 
 abbrev pub status_of : SessionEnd → Status
 status_of ends.Ended = Done
@@ -15,6 +18,11 @@ status_of ends.WriteFault = WriteFault
 status_of ends.Spent = Spent
 status_of ends.NoMemory = NoMemory
 
+abbrev pub served_of : ServeEnd → Status
+served_of served.Done = Done
+served_of served.AcceptFault = AcceptFault
+served_of served.NoMemory = NoMemory
+
 abbrev pub exit_code : Status → ℕ
 exit_code Done = 0
 exit_code BadWords = 2
@@ -24,3 +32,5 @@ exit_code ReadFault = 5
 exit_code WriteFault = 6
 exit_code NoMemory = 7
 exit_code Spent = 8
+exit_code AcceptFault = 10
+exit_code BindFault = 16

@@ -1,18 +1,22 @@
 //! All that `main` does, but for the streams.
-ghost use Rattle.std.specs.Prelude.{◌≡◌, ◌≢◌, ◌<◌, ◌↔◌, ◌⊎◌, IfOk};
+ghost use Rattle.std.specs.Prelude.{◌≡◌, ◌≢◌, ◌<◌, ◌↔◌, ◌⊎◌, false, IfOk};
 ghost use Rattle.std.specs.Process.{exit_status};
 ghost use Rattle.vs_outside.specs.Known.{Adds};
 ghost use Rattle.vs_program.specs.Jobs.{bad_words};
-ghost use Rattle.vs_program.specs.Program.{words_after_name, Runs};
+ghost use Rattle.vs_program.specs.Program.{words_after_name, words_given as given, names_server as is_server, Runs};
 ghost use Rattle.vs_program.specs.Status.{exit_code};
 
+use crate::port::serve_port;
 use crate::run::run_alone;
 use crate::status::Status;
-use std::alloc::Global;
+use std::alloc::{AllocError, Global};
 use std::env::Args;
 use std::io;
 use std::io::Eprint;
+use std::net::{Net, TcpListener, TcpStream};
 use std::process::{ExitCode, Termination};
+use std::sync::Wait;
+use std::thread::Threads;
 use vs_outside::{List, NoMemory, Sink, Source, Text};
 
 // The program's words: its arguments after its own name.
@@ -27,26 +31,46 @@ fn words_of(alloc: Global, mut args: Args) -> Result<List<Text>, NoMemory>
     Ok(words)
 }
 
-/// Does the job that the program's arguments name, of which the first is its own name. Arguments that can't be read, as those that aren't
-/// UTF-8, name no job.
-pub fn run_program<S: Source, K: Sink>(
-    alloc: Global,
-    args: io::Result<Args>,
-    source: &mut S,
-    sink: &mut K,
-) -> Status
+// The words that the arguments give. Arguments that can't be read, as those that aren't UTF-8, give none.
+fn words_given(alloc: Global, args: io::Result<Args>) -> Result<List<Text>, NoMemory>
+    ensures { IfOk result (λ words. words ≡ given args) }
+{
+    match args {
+        Ok(args) => words_of(alloc, args),
+        Err(error) if error.kind() == io::ErrorKind::OutOfMemory => Err(AllocError),
+        Err(_) => Ok(List::new(alloc)),
+    }
+}
+
+// Whether the words are for a server.
+fn names_server(words: &[Text]) -> bool
+    ensures { result ≡ is_server words.now }
+{
+    match words {
+        [word, ..] => word.as_slice() == b"serve".as_slice(),
+        [] => false,
+    }
+}
+
+/// Does the job that the program's arguments name, of which the first is its own name. With `serve` it serves a port of loopback and tells
+/// on standard error where, or why not; else it reads the source and writes the sink.
+pub fn run_program<
+    S: Source,
+    K: Sink,
+    R: Net<Stream = TcpStream, Listener = TcpListener> + Threads + Wait + Eprint + Sync,
+>(rt: &R, alloc: Global, args: io::Result<Args>, source: &mut S, sink: &mut K) -> Status
     ensures job { Runs args result (S.left source.old) (S.left source.new) (K.written sink.old) (K.written sink.new) }
-    ensures bad_words { result ≡ Status.BadWords → (K.faults sink.old < K.faults sink.new) ⊎ Adds (K.written sink.old) bad_words (K.written sink.new) }
+    ensures bad_words { is_server (given args) ≡ false → result ≡ Status.BadWords → (K.faults sink.old < K.faults sink.new) ⊎ Adds (K.written sink.old) bad_words (K.written sink.new) }
     ensures read_fault { (result ≡ Status.ReadFault) ↔ (S.faults source.old < S.faults source.new) }
     ensures write_fault { result ≢ Status.BadWords → ((result ≡ Status.WriteFault) ↔ (K.faults sink.old < K.faults sink.new)) }
 {
-    match args {
-        Ok(args) => match words_of(alloc, args) {
-            Ok(words) => run_alone(alloc, words.as_slice(), source, sink),
-            Err(_) => Status::NoMemory,
-        },
-        Err(error) if error.kind() == io::ErrorKind::OutOfMemory => Status::NoMemory,
-        Err(_) => run_alone(alloc, &[], source, sink),
+    let Ok(words) = words_given(alloc, args) else {
+        return Status::NoMemory;
+    };
+    if names_server(words.as_slice()) {
+        serve_port(rt, alloc, words.as_slice())
+    } else {
+        run_alone(alloc, words.as_slice(), source, sink)
     }
 }
 

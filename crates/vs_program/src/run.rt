@@ -60,6 +60,8 @@ pub fn run_alone<S: Source, K: Sink>(
         Ok(job) => match job {
             Job::Script { seed } => status_at(serve_alone(alloc, seed, source, sink)),
             Job::Generate { seed, members, dim } => generate(alloc, seed, members, dim, sink),
+            // `run_server` does it.
+            Job::Serve { .. } => refuse(sink),
         },
         Err(error) => match error {
             WordsError::NoMemory => Status::NoMemory,

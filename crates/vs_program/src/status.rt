@@ -1,18 +1,21 @@
 //! How the program ends.
 ghost use Rattle.std.specs.Prelude.{◌≡◌};
-ghost use Rattle.vs_program.specs.Status.{status_of, exit_code};
+ghost use Rattle.vs_program.specs.Status.{status_of, served_of, exit_code};
 
 use vs_connection::SessionEnd;
+use vs_server::ServeEnd;
 
 /// How the program ends.
 ///
-/// - `Done`: the input ended after a whole message, or QUIT was answered.
+/// - `Done`: the input ended after a whole message, or QUIT was answered; or a server served as many connections as it was to.
 /// - `BadWords`: the words name no job.
 /// - `Protocol`: the input has a fault.
 /// - `CutShort`: the input ended within a message.
 /// - `ReadFault`, `WriteFault`: the source, the sink failed.
-/// - `NoMemory`: before the first read, or while a message was read.
+/// - `NoMemory`: before the first read or accept, or while a message was read.
 /// - `Spent`: 2^62 bytes or more were taken.
+/// - `AcceptFault`: a listener failed.
+/// - `BindFault`: the port can't be had.
 #[derive(Clone, Copy, Debug, PartialEq, Eq)]
 pub enum Status {
     Done,
@@ -23,6 +26,8 @@ pub enum Status {
     WriteFault,
     NoMemory,
     Spent,
+    AcceptFault,
+    BindFault,
 }
 
 impl Status {
@@ -39,6 +44,8 @@ impl Status {
             Status::WriteFault => 6,
             Status::NoMemory => 7,
             Status::Spent => 8,
+            Status::AcceptFault => 10,
+            Status::BindFault => 16,
         }
     }
 }
@@ -55,5 +62,16 @@ pub fn status_at(end: SessionEnd) -> Status
         SessionEnd::WriteFault => Status::WriteFault,
         SessionEnd::Spent => Status::Spent,
         SessionEnd::NoMemory => Status::NoMemory,
+    }
+}
+
+/// The status of a server's end.
+pub fn status_served(end: ServeEnd) -> Status
+    ensures { result ≡ served_of end }
+{
+    match end {
+        ServeEnd::Done => Status::Done,
+        ServeEnd::AcceptFault => Status::AcceptFault,
+        ServeEnd::NoMemory => Status::NoMemory,
     }
 }
