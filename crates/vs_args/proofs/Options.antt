@@ -14,7 +14,7 @@ use Rattle.vs_defs.specs.Bytes.{Bytes, same_name}
 use Rattle.vs_args.specs.declared.command.Choice as own
 use Rattle.vs_args.specs.declared.command.Choice.TheVariants as options
 use Rattle.vs_args.specs.declared.command.Command.{Command}
-use Rattle.vs_args.specs.declared.command.Command.TheVariants.{Script, Generate}
+use Rattle.vs_args.specs.declared.command.Command.TheVariants.{Script, Generate, Serve}
 use Rattle.vs_defs.specs.ProgramWords as defs
 use Rattle.vs_args.specs.Words.{job_named, command_named, choices_of, choice_of, seen, is_named, joined_name, value_behind}
 use Rattle.vs_defs.specs.ProgramWords.{Choice, choice_named, choice_within, without_choice, settings_of, value_in, with_setting, job_by}
@@ -169,6 +169,12 @@ value_part options.Members [] = refl
 value_part options.Members (b ∷ bs) = refl
 value_part options.Dim [] = refl
 value_part options.Dim (b ∷ bs) = refl
+value_part options.Port [] = refl
+value_part options.Port (b ∷ bs) = refl
+value_part options.Workers [] = refl
+value_part options.Workers (b ∷ bs) = refl
+value_part options.Connections [] = refl
+value_part options.Connections (b ∷ bs) = refl
 
 -- the values that are read, where the first word is an option with its value
 pub gives_with : (c : Choice) (v : ℕ) (s new : Settings) (more : Option defs.Settings)
@@ -188,30 +194,42 @@ no_more c (Some v) = refl
 abbrev pub job_with : Command → defs.Settings → defs.Job
 job_with Script s = defs.Script (defs.setting (codes "--seed") 0 s)
 job_with Generate s = defs.Generate (defs.setting (codes "--seed") 0 s) (defs.setting (codes "--members") 20000 s) (defs.setting (codes "--dim") 256 s)
+job_with Serve s =
+    defs.Serve (defs.setting (codes "--port") 6379 s) (defs.setting (codes "--workers") 8 s) (defs.setting (codes "--seed") 0 s)
+    (defs.setting (codes "--connections") 4294967295 s)
 
-by_command : (w : Bytes) (ws : List Bytes) (c : Command) (a b : Bool) → same_name w (codes "script") ≡ a → same_name w (codes "generate") ≡ b
-    → cond a (Some Script) (cond b (Some Generate) None) ≡ Some c
-    → cond (a || (b || false)) (job_by w ws) None ≡ option_map (job_with c) (settings_of (seen (choices_of c)) ws)
-by_command w ws Script true b is is_b e = rw is refl
-by_command w ws Generate true b is is_b e = cc
-by_command w ws Script false true is is_b e = cc
-by_command w ws Generate false true is is_b e =
+by_command : (w : Bytes) (ws : List Bytes) (c : Command) (a b d : Bool) → same_name w (codes "script") ≡ a → same_name w (codes "generate") ≡ b
+    → same_name w (codes "serve") ≡ d → cond a (Some Script) (cond b (Some Generate) (cond d (Some Serve) None)) ≡ Some c
+    → cond (a || (b || (d || false))) (job_by w ws) None ≡ option_map (job_with c) (settings_of (seen (choices_of c)) ws)
+by_command w ws Script true b d is is_b is_d e = rw is refl
+by_command w ws Generate true b d is is_b is_d e = cc
+by_command w ws Serve true b d is is_b is_d e = cc
+by_command w ws Script false true d is is_b is_d e = cc
+by_command w ws Serve false true d is is_b is_d e = cc
+by_command w ws Generate false true d is is_b is_d e =
     let word : w ≡ codes "generate" = (bytes_eq-Decides w (codes "generate")).0 is_b in
     rw word refl
-by_command w ws c false false is is_b e = cc
+by_command w ws Script false false true is is_b is_d e = cc
+by_command w ws Generate false false true is is_b is_d e = cc
+by_command w ws Serve false false true is is_b is_d e =
+    let word : w ≡ codes "serve" = (bytes_eq-Decides w (codes "serve")).0 is_d in
+    rw word refl
+by_command w ws c false false false is is_b is_d e = cc
 
 pub job_by_command : (w : Bytes) (ws : List Bytes) (c : Command) → command_named w ≡ Some c
     → job_named (w ∷ ws) ≡ option_map (job_with c) (settings_of (seen (choices_of c)) ws)
-job_by_command w ws c e = by_command w ws c (same_name w (codes "script")) (same_name w (codes "generate")) refl refl e
+job_by_command w ws c e =
+    by_command w ws c (same_name w (codes "script")) (same_name w (codes "generate")) (same_name w (codes "serve")) refl refl refl e
 
-no_command : (w : Bytes) (ws : List Bytes) (a b : Bool) → cond a (Some Script) (cond b (Some Generate) None) ≡ None
-    → cond (a || (b || false)) (job_by w ws) None ≡ None
-no_command w ws true b e = cc
-no_command w ws false true e = cc
-no_command w ws false false e = refl
+no_command : (w : Bytes) (ws : List Bytes) (a b d : Bool) → cond a (Some Script) (cond b (Some Generate) (cond d (Some Serve) None)) ≡ None
+    → cond (a || (b || (d || false))) (job_by w ws) None ≡ None
+no_command w ws true b d e = cc
+no_command w ws false true d e = cc
+no_command w ws false false true e = cc
+no_command w ws false false false e = refl
 
 pub no_job_by : (w : Bytes) (ws : List Bytes) → command_named w ≡ None → job_named (w ∷ ws) ≡ None
-no_job_by w ws e = no_command w ws (same_name w (codes "script")) (same_name w (codes "generate")) e
+no_job_by w ws e = no_command w ws (same_name w (codes "script")) (same_name w (codes "generate")) (same_name w (codes "serve")) e
 
 -- the job of settings that were read
 pub script_of : (s : Settings) (o : Option defs.Settings) → Gives (Some s) o → Some (defs.Script s.seed) ≡ option_map (job_with Script) o
@@ -227,3 +245,16 @@ generate_of s (Some list) gives =
 pub in_ranges : (s : Settings) (o : Option defs.Settings) → Gives (Some s) o → IsFrom 1 1048576 s.members × IsFrom 1 4096 s.dim
 in_ranges s None gives = absurd gives
 in_ranges s (Some list) gives = (gives.members_within, gives.dim_within)
+
+pub serve_of : (s : Settings) (o : Option defs.Settings) → Gives (Some s) o → Some (defs.Serve s.port s.workers s.seed s.connections) ≡ option_map (job_with Serve) o
+serve_of s None gives = absurd gives
+serve_of s (Some list) gives =
+    ap (λ n. Some (defs.Serve n s.workers s.seed s.connections)) gives.port
+    ∙ ap (λ n. Some (defs.Serve (defs.setting (codes "--port") 6379 list) n s.seed s.connections)) gives.workers
+    ∙ ap (λ n. Some (defs.Serve (defs.setting (codes "--port") 6379 list) (defs.setting (codes "--workers") 8 list) n s.connections)) gives.seed
+    ∙ ap (λ n. Some (defs.Serve (defs.setting (codes "--port") 6379 list) (defs.setting (codes "--workers") 8 list) (defs.setting (codes "--seed") 0 list) n)) gives.connections
+
+pub in_server_ranges : (s : Settings) (o : Option defs.Settings) → Gives (Some s) o
+    → IsFrom 1 65535 s.port × IsFrom 1 64 s.workers × IsFrom 1 4294967295 s.connections
+in_server_ranges s None gives = absurd gives
+in_server_ranges s (Some list) gives = (gives.port_within, gives.workers_within, gives.connections_within)
