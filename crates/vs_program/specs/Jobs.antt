@@ -6,13 +6,12 @@ use Rattle.vs_defs.specs.Bytes.{Bytes}
 use Rattle.vs_defs.specs.ProgramWords.{Job}
 use Rattle.vs_defs.specs.ProgramWords.Job.{Script, Schedule, Generate, Serve}
 use Rattle.vs_session_defs.specs.Words.{generator}
-use Rattle.vs_thread_defs.specs.Generator.{Generates}
 use Rattle.vs_outside.specs.Known.{Adds, in_front, NothingLeft}
 use Rattle.vs_connection.specs.declared.end.SessionEnd.{SessionEnd}
 use Rattle.vs_connection.specs.declared.end.SessionEnd.TheVariants.{Ended, CutShort}
 use Rattle.vs_session.specs.Alone.{EndsWith}
 use Rattle.vs_program.specs.declared.status.Status.{Status}
-use Rattle.vs_program.specs.declared.status.Status.TheVariants.{Done, BadWords, WriteFault, NoMemory}
+use Rattle.vs_program.specs.declared.status.Status.TheVariants.{BadWords, NoMemory}
 use Rattle.vs_program.specs.Status.{status_of}
 
 abbrev pub bad_words : Bytes
@@ -33,15 +32,7 @@ pub record ServesAlone (seed : ℕ) (status : Status) (left left' written writte
   pub ends : EndsWith end (generator seed 0) input output
   pub nothing : (end ≡ Ended) ⊎ (end ≡ CutShort) → NothingLeft left'
 
--- the summary was made and written, or a beginning of it where the sink failed, or nothing where memory was refused
-abbrev pub Prints : (seed members dim : ℕ) → Status → Option Bytes → Option Bytes → Type 0
-Prints seed members dim Done written written' = (out : Bytes) × Generates seed members dim out × Adds written out written'
-Prints seed members dim WriteFault written written' =
-    (out : Bytes) × Generates seed members dim out × (done : Bytes) × (lost : Bytes) × (out ≡ done ++ lost) × Adds written done written'
-Prints seed members dim NoMemory written written' = written' ≡ written
-Prints seed members dim status written written' = ⊥
-
--- a job of another call isn't done here
+-- a job of another call, or that isn't built yet, isn't done here: its words are bad ones
 abbrev pub LeavesJob : Status → Option Bytes → Option Bytes → Option Bytes → Option Bytes → Type 0
 LeavesJob BadWords left left' written written' = (left' ≡ left) × Refuses written written'
 LeavesJob NoMemory left left' written written' = (left' ≡ left) × (written' ≡ written)
@@ -51,6 +42,6 @@ LeavesJob status left left' written written' = ⊥
 abbrev pub Does : Option Job → Status → Option Bytes → Option Bytes → Option Bytes → Option Bytes → Type 0
 Does None status left left' written written' = (status ≡ BadWords) × (left' ≡ left) × Refuses written written'
 Does (Some (Script seed)) status left left' written written' = ServesAlone seed status left left' written written'
-Does (Some Schedule) status left left' written written' = ⊥
-Does (Some (Generate seed members dim)) status left left' written written' = (left' ≡ left) × Prints seed members dim status written written'
+Does (Some Schedule) status left left' written written' = LeavesJob status left left' written written'
+Does (Some (Generate seed members dim)) status left left' written written' = LeavesJob status left left' written written'
 Does (Some (Serve port workers seed connections)) status left left' written written' = LeavesJob status left left' written written'

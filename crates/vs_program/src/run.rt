@@ -2,14 +2,12 @@
 ghost use Rattle.std.specs.Prelude.{◌≡◌, ◌≢◌, ◌<◌, ◌⊎◌, ◌↔◌};
 ghost use Rattle.vs_outside.specs.Known.{Adds};
 ghost use Rattle.vs_args.specs.Words.{job_named};
-ghost use Rattle.vs_defs.specs.Bounds.{IsFrom};
-ghost use Rattle.vs_program.specs.Jobs.{Does, Prints, Refuses, bad_words};
+ghost use Rattle.vs_program.specs.Jobs.{Does, Refuses, bad_words};
 
 use crate::status::{Status, status_at};
 use std::alloc::Global;
 use vs_args::{Job, WordsError, read_words};
 use vs_connection::write_all;
-use vs_generate::summary;
 use vs_outside::{Sink, Source, Text};
 use vs_session::serve_alone;
 
@@ -27,23 +25,6 @@ fn refuse<K: Sink>(sink: &mut K) -> Status
     Status::BadWords
 }
 
-// Writes the summary of generated members, which is whole before the first byte of it is written.
-fn generate<K: Sink>(alloc: Global, seed: u64, members: u32, dim: u32, sink: &mut K) -> Status
-    requires members { IsFrom 1 1048576 members }
-    requires dim { IsFrom 1 4096 dim }
-    ensures prints { Prints seed members dim result (K.written sink.old) (K.written sink.new) }
-    ensures write_fault { (result ≡ Status.WriteFault) ↔ (K.faults sink.old < K.faults sink.new) }
-{
-    let Ok(text) = summary(alloc, seed, members, dim) else {
-        return Status::NoMemory;
-    };
-    if write_all(sink, text.as_slice()) {
-        Status::Done
-    } else {
-        Status::WriteFault
-    }
-}
-
 /// Does the job that the words name. Where they name none, `vectord: bad words` and a line feed are written, or what the sink takes of it.
 pub fn run_alone<S: Source, K: Sink>(
     alloc: Global,
@@ -59,9 +40,8 @@ pub fn run_alone<S: Source, K: Sink>(
     match read_words(alloc, words) {
         Ok(job) => match job {
             Job::Script { seed } => status_at(serve_alone(alloc, seed, source, sink)),
-            Job::Generate { seed, members, dim } => generate(alloc, seed, members, dim, sink),
-            // `run_server` does it.
-            Job::Serve { .. } => refuse(sink),
+            // The summary of generated members isn't built yet, and `run_server` serves.
+            Job::Generate { .. } | Job::Serve { .. } => refuse(sink),
         },
         Err(error) => match error {
             WordsError::NoMemory => Status::NoMemory,

@@ -1,4 +1,0 @@
-mod Words
-mod Growing
-mod Linking
-mod Summing
