@@ -1,5 +1,5 @@
-//! Vectord: a server for vector sets. `vectord serve` serves a port of loopback, `vectord script` standard input on standard output. The programs `vectord_..` are this very
-//! file, run with other words on other input.
+//! Vectord: a server for vector sets. `vectord serve` serves a port of loopback, `vectord script` standard input on standard output. The
+//! programs `vectord_..` are this very file, run with other words on other input.
 #![tactic(auto)]
 
 use std::{env, io};
