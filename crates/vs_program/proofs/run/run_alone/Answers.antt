@@ -5,5 +5,5 @@ use Rattle.vs_program.proofs.run.run_alone.Goals as goal
 
 pub returns-in-NoMemory-clause-job : goal.returns-in-NoMemory-clause-job
 returns-in-NoMemory-clause-job g c =
-    let plain = subst (λ e. IsReading c.args.words.now (Err e)) c.in-NoMemory.is c.in-Err.ensures in
+    let plain = subst (λ e. IsReading c.args.words.now (Err e)) c.in-NoMemory.is c.in-Err.ensures.reading in
     no_memory (g.S.Source.left c.args.source.now) (g.K.Sink.written c.args.sink.now) c.args.words.now plain
