@@ -1,0 +1,1 @@
+//! A short run in which memory may be refused at any place.
