@@ -32,7 +32,7 @@ fn word_for(place: u32, members: u32) -> u32 {
 }
 
 /// A word for each place, in their order.
-fn words_for(alloc: Global, members: u32) -> Result<List<u32>, NoMemory> {
+pub fn words_for(alloc: Global, members: u32) -> Result<List<u32>, NoMemory> {
     let mut words = List::new(alloc);
     for place in 0..members {
         words.push(word_for(place, members))?;

@@ -10,7 +10,7 @@ use vs_outside::NoMemory;
 use vs_store::Limits;
 
 /// The drawn word of an addition, or none; a line; its answer.
-type Step = (&'static [u32], &'static str, &'static str);
+pub type Step = (&'static [u32], &'static str, &'static str);
 
 // The hub has as many links as it may have, none farther than the ninth leaf, which is linked to the first.
 const FULL_HUB: &[Step] = &[
@@ -88,6 +88,34 @@ const PICKS: &[Step] = &[
     (&[], "VRANDMEMBER s 0", ""),
 ];
 
+// A member of level 3 is replaced by one of level 0, which keeps the attribute.
+const REPLACED: &[Step] = &[
+    (&[64], "VADD s VALUES 3 1 1 1 a SETATTR {\"n\":1}", "1"),
+    (&[16], "VADD s VALUES 3 1 1 -1 b CAS", "1"),
+    (&[], "VLINKS s a", "// b 1/ b 1/ b 1"),
+    (&[1], "VADD s VALUES 3 -1 -1 -1 a", "0"),
+    (&[], "VGETATTR s a", "{\"n\":1}"),
+    (&[], "VSETATTR s b {\"n\":2}", "1"),
+    (&[], "VEMB s a", "---"),
+    (&[], "VLINKS s b", "/// a 2"),
+    (
+        &[],
+        "VSIM s VALUES 3 1 1 -1 COUNT 2 WITHATTRIBS TRUTH",
+        " b 0 {\"n\":2} a 2 {\"n\":1}",
+    ),
+    (
+        &[],
+        "VSIM s VALUES 3 1 1 -1 COUNT 2 WITHATTRIBS",
+        " b 0 {\"n\":2} a 2 {\"n\":1}",
+    ),
+    (&[], "VSIM s ELE a FILTER .n>1", " b 2"),
+    (&[], "DEL s t", "1"),
+    (&[], "VCARD s", "0"),
+];
+
+/// All of them that are for a store of the usual limits.
+pub const ALL: [&'static [Step]; 6] = [FULL_HUB, LEVELS, EFFORT, STAR, PICKS, REPLACED];
+
 fn run(rt: &impl Abort, alloc: Global, limits: Limits, steps: &[Step]) -> Result<(), NoMemory>
     requires { AreUsual (limits_seen limits) }
 {
@@ -100,7 +128,7 @@ fn run(rt: &impl Abort, alloc: Global, limits: Limits, steps: &[Step]) -> Result
 
 #[test]
 fn worked_requests_are_answered(rt: HostRuntime) -> Result<(), Fail> {
-    for steps in [FULL_HUB, LEVELS, EFFORT, STAR, PICKS] {
+    for steps in ALL {
         run(&rt, rt.alloc(), Limits::usual(), steps)?;
     }
     let limits = Limits {
