@@ -1,6 +1,6 @@
 //! Whether a store keeps what the plain list has.
 use crate::asking::{Asked, check, outcome_of};
-use crate::plain::{Member, Plain, count_attributes, greatest_level};
+use crate::plain::{Member, Plain, count_attributes, count_of, greatest_level};
 use std::alloc::Global;
 use std::process::Abort;
 use vs_command::Answer;
@@ -28,7 +28,8 @@ pub fn attribute_of(alloc: Global, number: u8) -> Result<String, NoMemory> {
 /// The least word that picks a place among so many.
 fn word_for(place: u32, members: u32) -> u32 {
     let members = u64::from(members).max(1);
-    ((u64::from(place) << 32).saturating_add(members - 1) / members) as u32
+    let word = (u64::from(place) << 32).saturating_add(members - 1) / members;
+    u32::try_from(word).unwrap_or(u32::MAX)
 }
 
 /// A word for each place, in their order.
@@ -52,7 +53,7 @@ fn check_places(
     for member in members {
         wanted.push_str(format!(in alloc; " {}", member.name as char)?.as_str())?;
     }
-    let words = words_for(alloc, members.len() as u32)?;
+    let words = words_for(alloc, count_of(members))?;
     let line = format!(in alloc; "VRANDMEMBER {} -{}", key as char, members.len())?;
     check(rt, asked, line.as_str(), words.as_slice(), wanted.as_str())
 }

@@ -29,7 +29,7 @@ fn push_answer(
 fn count_of(rt: &impl Abort, asked: &mut Asked, key: &str) -> Result<u32, NoMemory> {
     let line = format!(in asked.alloc; "VCARD {key}")?;
     match outcome_of(rt, asked, line.as_str(), &[])? {
-        Ok(Answer::Int(count)) => Ok((count & 0xFFFF) as u32),
+        Ok(Answer::Int(count)) => Ok(u32::try_from(count).unwrap_or(0)),
         _ => panic!(rt; "no count: {line}"),
     }
 }

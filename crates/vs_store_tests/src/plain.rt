@@ -31,6 +31,11 @@ impl Member {
     }
 }
 
+/// How many these are.
+pub fn count_of(members: &[Member]) -> u32 {
+    u32::try_from(members.len()).unwrap_or(u32::MAX)
+}
+
 /// How many of these have an attribute.
 pub fn count_attributes(members: &[Member]) -> u32 {
     let mut count: u32 = 0;
@@ -66,8 +71,19 @@ impl Plain {
     }
 
     /// How many members all sets have.
-    pub fn len(&self) -> usize {
-        self.members.len()
+    pub fn count_all(&self) -> u32 {
+        count_of(self.members.as_slice())
+    }
+
+    /// How many members a set has.
+    pub fn count(&self, key: u8) -> u32 {
+        let mut count: u32 = 0;
+        for member in self.members.as_slice() {
+            if member.key == key {
+                count = count.saturating_add(1);
+            }
+        }
+        count
     }
 
     /// The members of a set in their places.

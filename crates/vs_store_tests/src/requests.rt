@@ -100,8 +100,8 @@ fn components(alloc: Global, dim: u32, vector: u32) -> Result<String, NoMemory> 
 
 /// Why an addition is refused.
 fn refusal_of(trial: &Trial, member: &Member, m: Option<u16>) -> Result<Option<Refusal>, NoMemory> {
-    let count = trial.plain.members_of(member.key)?.len() as u32;
-    let all = trial.plain.len() as u32;
+    let count = trial.plain.count(member.key);
+    let all = trial.plain.count_all();
     let full = all >= trial.limits.all;
     let is_new = !trial.plain.has(member.key, member.name);
     Ok(match (trial.plain.first_of(member.key), m) {
@@ -151,22 +151,30 @@ fn options(trial: &mut Trial, m: Option<u16>, number: Option<u8>) -> Result<Stri
     Ok(words)
 }
 
-/// An addition, of a new name or a member's.
-fn add(rt: &impl Abort, trial: &mut Trial) -> Result<u8, NoMemory> {
-    let alloc = trial.asked.alloc;
-    let key = trial.key();
-    let name = trial.name();
-    let (dim, set_m) = trial.shape(key);
-    let m = match trial.random.below(16) {
+/// An addition, of a new name or a member's: the member that it makes, with the M, the attribute's number and the word that were drawn.
+#[derive(Clone, Copy)]
+struct Addition {
+    member: Member,
+    m: Option<u16>,
+    number: Option<u8>,
+    word: u32,
+}
+
+/// The M that is named: that of the set, or 4, or none.
+fn named_m(trial: &mut Trial, set_m: u16) -> Option<u16> {
+    match trial.random.below(16) {
         0 => Some(4),
         1..8 => Some(set_m),
         _ => None,
-    };
-    let number = if trial.random.is_one_in(2) {
-        None
-    } else {
-        Some(trial.number())
-    };
+    }
+}
+
+fn drawn(trial: &mut Trial) -> Addition {
+    let (key, name) = (trial.key(), trial.name());
+    let (dim, set_m) = trial.shape(key);
+    let m = named_m(trial, set_m);
+    let keeps = trial.random.is_one_in(2);
+    let number = if keeps { None } else { Some(trial.number()) };
     let vector = trial.vector(dim);
     let word = trial.random.word();
     let old = trial.plain.find(key, name);
@@ -180,34 +188,53 @@ fn add(rt: &impl Abort, trial: &mut Trial) -> Result<u8, NoMemory> {
         },
         vector,
         level: level_of_word(word),
-        number: match (number, old) {
-            (Some(number), _) => number,
-            (None, Some(old)) => old.number,
-            (None, None) => 0,
-        },
+        number: number.unwrap_or(old.map_or(0, |old| old.number)),
     };
+    Addition {
+        member,
+        m,
+        number,
+        word,
+    }
+}
+
+fn addition_line(trial: &mut Trial, addition: Addition) -> Result<String, NoMemory> {
+    let Member {
+        key,
+        name,
+        dim,
+        vector,
+        ..
+    } = addition.member;
+    let alloc = trial.asked.alloc;
     let words = components(alloc, dim, vector)?;
-    let options = options(trial, m, number)?;
-    let line = format!(in alloc;
-        "VADD {} VALUES {dim}{words} {}{options}",
-        key as char, name as char
-    )?;
-    let refusal = refusal_of(trial, &member, m)?;
+    let options = options(trial, addition.m, addition.number)?;
+    let (key, name) = (key as char, name as char);
+    Ok(format!(in alloc; "VADD {key} VALUES {dim}{words} {name}{options}")?)
+}
+
+fn add(rt: &impl Abort, trial: &mut Trial) -> Result<u8, NoMemory> {
+    let alloc = trial.asked.alloc;
+    let addition = drawn(trial);
+    let member = addition.member;
+    let line = addition_line(trial, addition)?;
+    let refusal = refusal_of(trial, &member, addition.m)?;
+    let is_new = !trial.plain.has(member.key, member.name);
     let wanted = match refusal {
         Some(refusal) => format!(in alloc; "{refusal:?}")?,
-        None => format!(in alloc; "{}", if old.is_none() { 1 } else { 0 })?,
+        None => format!(in alloc; "{}", u8::from(is_new))?,
     };
     check(
         rt,
         &mut trial.asked,
         line.as_str(),
-        &[word],
+        &[addition.word],
         wanted.as_str(),
     )?;
     if refusal.is_none() {
         trial.plain.put(member)?;
     }
-    Ok(key)
+    Ok(member.key)
 }
 
 // ---- removals and attributes
