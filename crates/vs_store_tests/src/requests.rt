@@ -24,7 +24,7 @@ pub struct Trial {
 }
 
 /// How many names there are; the first is `A`.
-const NAMES: u32 = 40;
+const NAMES: u32 = 24;
 
 impl Trial {
     pub fn new(alloc: Global, limits: Limits) -> Trial
@@ -249,17 +249,21 @@ fn remove(rt: &impl Abort, trial: &mut Trial) -> Result<u8, NoMemory> {
     Ok(key)
 }
 
+/// Deletes the fourth key and at times one of the others.
 fn remove_keys(rt: &impl Abort, trial: &mut Trial) -> Result<u8, NoMemory> {
-    let one = trial.key();
-    let other = trial.key();
-    let line = format!(in trial.asked.alloc; "DEL {} {} x", one as char, other as char)?;
+    let other = if trial.random.is_one_in(3) {
+        trial.key()
+    } else {
+        b'x'
+    };
+    let line = format!(in trial.asked.alloc; "DEL n {} x n", other as char)?;
     let before = trial.plain.count_keys(&KEYS);
-    trial.plain.remove_key(one)?;
+    trial.plain.remove_key(b'n')?;
     trial.plain.remove_key(other)?;
     let gone = before.saturating_sub(trial.plain.count_keys(&KEYS));
     let wanted = format!(in trial.asked.alloc; "{gone}")?;
     check(rt, &mut trial.asked, line.as_str(), &[], wanted.as_str())?;
-    Ok(one)
+    Ok(b'n')
 }
 
 fn set_attribute(rt: &impl Abort, trial: &mut Trial) -> Result<u8, NoMemory> {

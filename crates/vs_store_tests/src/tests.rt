@@ -31,9 +31,9 @@ fn turn(rt: &impl Abort, trial: &mut Trial, number: u32) -> Result<(), NoMemory>
 #[test]
 fn requests_are_answered_as_by_a_plain_list(rt: HostRuntime) -> Result<(), Fail> {
     let limits = Limits {
-        set: 24,
+        set: 14,
         keys: 3,
-        all: 60,
+        all: 34,
         ..Limits::usual()
     };
     let mut trial = Trial::new(rt.alloc(), limits);
