@@ -1,9 +1,10 @@
-/* Loaded before the C library: the allocation of the number REFUSE finds no memory, and at the end the number of allocations is told. */
+/* Loaded before the C library: the allocation of the number REFUSE finds no memory, which is told on standard error. */
 #define _GNU_SOURCE
 #include <dlfcn.h>
-#include <stdio.h>
 #include <stdlib.h>
+#include <unistd.h>
 
+static const char TOLD[] = "refused\n";
 static unsigned long wanted;
 static unsigned long count;
 static void *(*next_malloc)(size_t);
@@ -11,18 +12,14 @@ static void *(*next_realloc)(void *, size_t);
 
 __attribute__((constructor)) static void begin(void) {
     const char *number = getenv("REFUSE");
-    next_malloc = (void *(*)(size_t))dlsym(RTLD_NEXT, "malloc");
-    next_realloc = (void *(*)(void *, size_t))dlsym(RTLD_NEXT, "realloc");
     wanted = number ? strtoul(number, NULL, 10) : 0;
     count = 0;
 }
 
-__attribute__((destructor)) static void end(void) {
-    dprintf(2, "%lu allocations\n", count);
-}
-
 static int is_refused(void) {
-    return __atomic_add_fetch(&count, 1, __ATOMIC_RELAXED) == wanted;
+    if (__atomic_add_fetch(&count, 1, __ATOMIC_RELAXED) != wanted)
+        return 0;
+    return write(2, TOLD, sizeof TOLD - 1) >= 0;
 }
 
 void *malloc(size_t size) {
