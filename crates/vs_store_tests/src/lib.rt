@@ -1,0 +1,25 @@
+//! Tests of the whole store: many requests beside a plain list, requests that were worked out by hand, and a run in which memory is refused.
+#![tactic(auto)]
+
+#[cfg(test)]
+mod asking;
+#[cfg(test)]
+mod hits;
+#[cfg(test)]
+mod keeping;
+#[cfg(test)]
+mod links;
+#[cfg(test)]
+mod memory;
+#[cfg(test)]
+mod plain;
+#[cfg(test)]
+mod random;
+#[cfg(test)]
+mod requests;
+#[cfg(test)]
+mod shown;
+#[cfg(test)]
+mod tests;
+#[cfg(test)]
+mod worked;
