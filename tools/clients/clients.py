@@ -65,6 +65,11 @@ def connect():
     return socket.create_connection((HOST, PORT), timeout=20)
 
 
+def close(client):
+    client.close()
+    client.connection_pool.disconnect()
+
+
 def signs(generator, dim=DIM):
     return [str(generator.choice((1, -1))) for _ in range(dim)]
 
@@ -128,14 +133,14 @@ def run_py():
         check("redis-py sees a refusal", False)
     except redis.ResponseError as refusal:
         check("redis-py sees a refusal", True, str(refusal))
-    client.close()
-    other = redis.Redis(host=HOST, port=PORT, single_connection_client=True)
+    close(client)
+    other = redis.Redis(host=HOST, port=PORT)
     pipe = other.pipeline(transaction=False)
     for i in range(300):
         pipe.execute_command("VSIM", "p", "ELE", f"m{i % 200}", "COUNT", 3)
     replies = pipe.execute()
     check("redis-py with a pipeline", len(replies) == 300 and all(1 <= len(r) <= 3 for r in replies))
-    other.close()
+    close(other)
     status, _, err = server.end()
     check("the server ends after redis-py", status == 0, (status, err))
 
@@ -199,7 +204,7 @@ def change(load, number):
             load.error("change", reply)
         count += 1
     load.note("changes", count, slowest)
-    client.close()
+    close(client)
 
 
 def search(load, number):
@@ -218,7 +223,7 @@ def search(load, number):
             load.error("search", reply)
         count += 1
     load.note("searches", count, slowest)
-    client.close()
+    close(client)
 
 
 def leave_in_message(load):
@@ -279,7 +284,7 @@ def run_load():
     client = redis.Redis(host=HOST, port=PORT, single_connection_client=True)
     members = client.execute_command("VCARD", "load")
     check("the members are at most the names", 0 <= members <= 400, members)
-    client.close()
+    close(client)
     server.process.kill()
     server.process.wait()
 
