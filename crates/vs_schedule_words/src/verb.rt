@@ -1,0 +1,46 @@
+//! The six verbs of events.
+ghost use Rattle.std.specs.Prelude.{◌≡◌, option_map};
+ghost use Rattle.vs_thread_defs.specs.Schedule.{verb_text};
+ghost use Rattle.vs_schedule_words.specs.Verbs.{verb_of, verb_named};
+
+/// What an event of a schedule does.
+#[derive(Clone, Copy, Debug, PartialEq, Eq)]
+pub enum Verb {
+    Do,
+    Look,
+    Finish,
+    Draft,
+    Prepare,
+    Commit,
+}
+
+impl Verb {
+    /// The verb of a word.
+    pub fn named(word: &[u8]) -> Option<Verb>
+        ensures { option_map verb_of result ≡ verb_named word.now }
+    {
+        match word {
+            b"do" => Some(Verb::Do),
+            b"look" => Some(Verb::Look),
+            b"finish" => Some(Verb::Finish),
+            b"draft" => Some(Verb::Draft),
+            b"prepare" => Some(Verb::Prepare),
+            b"commit" => Some(Verb::Commit),
+            _ => None,
+        }
+    }
+
+    /// Its word.
+    pub fn text(self) -> &'static [u8]
+        ensures { result.now ≡ verb_text (verb_of self) }
+    {
+        match self {
+            Verb::Do => b"do",
+            Verb::Look => b"look",
+            Verb::Finish => b"finish",
+            Verb::Draft => b"draft",
+            Verb::Prepare => b"prepare",
+            Verb::Commit => b"commit",
+        }
+    }
+}
