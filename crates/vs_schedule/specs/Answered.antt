@@ -1,0 +1,45 @@
+-- What one line does, and where a run is behind the lines so far.
+--     Answers n old line end out new       the line of number n: it leads on, or the run ends
+--     Opens line core good      a line without a core
+--     Runs old line out new good      a line for the core
+--     Refuses n end out         what is written of a bad line
+--     SoFar input line lines out n stage      the input so far is whole lines and the beginning of one, and these lines printed that
+use Rattle.std.specs.Prelude.{◌≡◌, ℕ, Bool, true, false, List, [], ◌++◌, Option, Some, None}
+use Rattle.vs_defs.specs.Bytes.{Bytes}
+use Rattle.vs_thread_defs.specs.Schedule.{Ends, PrintsAll, bad_line_text, lines_from, whole_lines_from}
+use Rattle.vs_defs.specs.History.{IsPrefix}
+use Rattle.vs_defs.specs.Store.{Limits}
+use Rattle.vs_thread_defs.specs.Core as core
+use Rattle.vs_thread_defs.specs.Interleaving.{State}
+use Rattle.vs_schedule.specs.Stage.{Stage, Opening, Running, StandsAt, Goes, Leads, IsBad, Breaks}
+use Rattle.vs_schedule.specs.declared.end.ScheduleEnd.{ScheduleEnd}
+use Rattle.vs_schedule.specs.declared.end.ScheduleEnd.TheVariants.{Ended, BadLine, ReadFault, WriteFault, Spent, NoMemory}
+
+abbrev pub Answers : ℕ → Stage → Bytes → Option ScheduleEnd → Bytes → Stage → Type 0
+Answers n old line None out new = Leads old n line out new
+Answers n old line (Some (BadLine k)) out new = (k ≡ n) × (out ≡ bad_line_text n) × IsBad old n line
+Answers n old line (Some WriteFault) out new = Breaks old n line out
+Answers n old line (Some NoMemory) out new = Breaks old n line out
+Answers n old line (Some end) out new = ⊥
+
+-- a line without a core: it names the actors or is blank, or it is bad
+abbrev pub Opens : Bytes → Option core.Core → Bool → Type 0
+Opens line c true = (n : ℕ) → (next : Stage) × StandsAt c next × Leads Opening n line [] next
+Opens line c false = (n : ℕ) → IsBad Opening n line
+
+-- a line for the core: what it prints, and the core behind it, or it is bad
+abbrev pub Runs : core.Core → Bytes → Bytes → core.Core → Bool → Type 0
+Runs old line out new true = (n : ℕ) (limits : Limits) (s : State) → StandsAt (Some old) (Running limits s) → (next : Stage) × StandsAt (Some new) next × Leads (Running limits s) n line out next
+Runs old line out new false = (n : ℕ) (limits : Limits) (s : State) → StandsAt (Some old) (Running limits s) → IsBad (Running limits s) n line
+
+-- what is written of a bad line
+abbrev pub Refuses : ℕ → ScheduleEnd → Bytes → Type 0
+Refuses n (BadLine k) out = (k ≡ n) × (out ≡ bad_line_text n)
+Refuses n WriteFault out = IsPrefix out (bad_line_text n)
+Refuses n NoMemory out = out ≡ []
+Refuses n end out = ⊥
+
+pub record SoFar (input line : Bytes) (lines : List Bytes) (out : Bytes) (n : ℕ) (stage : Stage) : Type 0 where
+  pub all : (more : Bytes) → lines_from [] (input ++ more) ≡ lines ++ lines_from line more
+  pub whole : (more : Bytes) → whole_lines_from [] (input ++ more) ≡ lines ++ whole_lines_from line more
+  pub prints : (ls : List Bytes) (more : Bytes) (end : Ends) → Goes stage n ls more end → PrintsAll 1 (lines ++ ls) (out ++ more) end

@@ -1,0 +1,168 @@
+//! One line after another: what it prints is written whole before the next is looked at.
+ghost use Rattle.std.specs.Prelude.{◌≡◌, ◌≢◌, ◌<◌, ◌+◌, ◌^◌, [], Some, None, IfOk, OnErr};
+ghost use Rattle.vs_defs.specs.Bytes.{Bytes};
+ghost use Rattle.vs_outside.specs.Known.{Adds};
+ghost use Rattle.vs_schedule.specs.Stage.{Stage, StandsAt};
+ghost use Rattle.vs_schedule.specs.Answered.{Answers, Opens, Runs, Refuses};
+
+use crate::ScheduleEnd;
+use crate::begins::{Beginning, read_beginning};
+use crate::line::{Line, read_line};
+use crate::print::push_event;
+use std::alloc::Global;
+use vs_connection::write_all;
+use vs_core::{Core, StepOutcome};
+use vs_outside::{NoMemory, Sink, Text};
+use vs_schedule_words::{is_too_long, push_bad_line, take_line};
+
+/// A schedule that is being run: the core, once the actors are named; the bytes of the line that isn't whole yet, and its number.
+#[derive(Drop)]
+pub(crate) struct Runner {
+    alloc: Global,
+    core: Option<Core>,
+    line: Text,
+    number: u64,
+    printed: Text,
+}
+
+// A line without a core: whether it names the actors, or is blank.
+fn open(alloc: Global, core: &mut Option<Core>, line: &[u8]) -> Result<bool, NoMemory>
+    requires { core.old ≡ None }
+    ensures opens { IfOk result (Opens line.now core.new) }
+    ensures err { OnErr result (core.new ≡ None) }
+{
+    match read_beginning(alloc, line)? {
+        Beginning::Blank => Ok(true),
+        Beginning::Bad => Ok(false),
+        Beginning::Begins { actors, limits } => {
+            *core = Some(Core::new(alloc, actors, limits)?);
+            Ok(true)
+        }
+    }
+}
+
+// A line for the core: what it prints is put into `printed`. Whether it is no bad line.
+fn happen(
+    alloc: Global,
+    core: &mut Core,
+    line: &[u8],
+    printed: &mut Text,
+) -> Result<bool, NoMemory>
+    requires { printed.old ≡ [] }
+    ensures runs { IfOk result (Runs core.old line.now printed.new core.new) }
+{
+    match read_line(alloc, line)? {
+        Line::Blank => Ok(true),
+        Line::Bad => Ok(false),
+        Line::Happening { verb, event } => {
+            let actor = event.actor();
+            let outcome = core.step(event);
+            push_event(alloc, printed, actor, verb, outcome)?;
+            Ok(true)
+        }
+        Line::Unread {
+            actor,
+            verb,
+            refusal,
+        } => {
+            let outcome = match core.busy(actor) {
+                Some(error) => Err(error),
+                None => Ok(StepOutcome::Refused(refusal)),
+            };
+            push_event(alloc, printed, actor, verb, outcome)?;
+            Ok(true)
+        }
+    }
+}
+
+impl Runner {
+    /// A run in which no line was answered.
+    pub(crate) fn new(alloc: Global) -> Runner
+        ensures core { result.core ≡ None }
+        ensures line { result.line ≡ [] }
+        ensures number { result.number ≡ 1 }
+    {
+        Runner {
+            alloc,
+            core: None,
+            line: Text::new(alloc),
+            number: 1,
+            printed: Text::new(alloc),
+        }
+    }
+
+    // Tells that the line is bad.
+    fn refuse<K: Sink>(&mut self, sink: &mut K) -> ScheduleEnd
+        ensures refuses { (out : Bytes) × Adds (K.written sink.old) out (K.written sink.new) × Refuses self.old.number result out }
+        ensures failed { result ≡ ScheduleEnd.WriteFault → K.faults sink.old < K.faults sink.new }
+        ensures unfailed { result ≢ ScheduleEnd.WriteFault → K.faults sink.new ≡ K.faults sink.old }
+    {
+        self.printed.clear();
+        if push_bad_line(&mut self.printed, self.number).is_err() {
+            return ScheduleEnd::NoMemory;
+        }
+        if write_all(sink, self.printed.as_slice()) {
+            ScheduleEnd::BadLine { line: self.number }
+        } else {
+            ScheduleEnd::WriteFault
+        }
+    }
+
+    /// Answers the line, whose bytes are all there, and writes what it prints. The next line is then empty.
+    pub(crate) fn answer<K: Sink>(&mut self, sink: &mut K) -> Option<ScheduleEnd>
+        requires { self.old.number < 2 ^ 63 }
+        ensures answers { (stage : Stage) → StandsAt self.old.core stage → (out : Bytes) × (next : Stage) × Adds (K.written sink.old) out (K.written sink.new)
+            × Answers self.old.number stage self.old.line result out next × (result ≡ None → StandsAt self.new.core next) }
+        ensures next { result ≡ None → (self.new.line ≡ []) × (self.new.number ≡ self.old.number + 1) }
+        ensures failed { result ≡ Some ScheduleEnd.WriteFault → K.faults sink.old < K.faults sink.new }
+        ensures unfailed { result ≢ Some ScheduleEnd.WriteFault → K.faults sink.new ≡ K.faults sink.old }
+    {
+        self.printed.clear();
+        let line = self.line.as_slice();
+        let answered = match &mut self.core {
+            Some(core) => happen(self.alloc, core, line, &mut self.printed),
+            None => open(self.alloc, &mut self.core, line),
+        };
+        match answered {
+            Ok(true) => {
+                if !write_all(sink, self.printed.as_slice()) {
+                    return Some(ScheduleEnd::WriteFault);
+                }
+                self.line.clear();
+                self.number += 1;
+                None
+            }
+            Ok(false) => Some(self.refuse(sink)),
+            Err(_) => Some(ScheduleEnd::NoMemory),
+        }
+    }
+
+    /// Takes a piece of the input, and answers each line that is then whole. A line that is too long is bad before its end is seen.
+    pub(crate) fn take<K: Sink>(&mut self, piece: &[u8], sink: &mut K) -> Option<ScheduleEnd> {
+        let mut rest = piece;
+        loop {
+            match take_line(&mut self.line, rest) {
+                Err(_) => return Some(ScheduleEnd::NoMemory),
+                Ok(None) => break,
+                Ok(Some(behind)) => {
+                    if let Some(end) = self.answer(sink) {
+                        return Some(end);
+                    }
+                    rest = behind;
+                }
+            }
+        }
+        if is_too_long(self.line.as_slice()) {
+            return Some(self.refuse(sink));
+        }
+        None
+    }
+
+    /// Answers the last line, which has no line feed, where there is one.
+    pub(crate) fn finish<K: Sink>(mut self, sink: &mut K) -> ScheduleEnd {
+        if self.line.len() == 0 {
+            return ScheduleEnd::Ended;
+        }
+        self.answer(sink).unwrap_or(ScheduleEnd::Ended)
+    }
+}
