@@ -3,6 +3,9 @@
 
 ghost use Rattle.std.specs.Prelude.{◌≤◌};
 
+mod interleavings;
+mod requests;
+
 use super::*;
 use std::test::Fail;
 use vs_outside::{List, MemSink, MemSource, Text};
@@ -26,6 +29,16 @@ fn run<R: AllocGlobal>(
     let mut sink = MemSink::new(alloc, 16_384, write_faults);
     let end = run_schedule(alloc, &mut source, &mut sink);
     Ok((end, Vec::from_slice(alloc, sink.written())?))
+}
+
+// A schedule whose source ends, in small pieces and in a whole one.
+fn check<R: AllocGlobal>(rt: &R, input: &[u8], output: &[u8]) -> Result<(), Fail> {
+    for piece in [3, 16_384] {
+        let (end, written) = run(rt, input, piece, 0, 0)?;
+        assert_eq!(rt; end, ScheduleEnd::Ended);
+        assert_eq!(rt; written.as_slice(), output);
+    }
+    Ok(())
 }
 
 #[test]

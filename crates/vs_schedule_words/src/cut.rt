@@ -1,9 +1,17 @@
 //! Texts cut at a byte: lines at line feeds, words at spaces, drawn words at commas.
-ghost use Rattle.std.specs.Prelude.{◌≡◌, ◌<◌, ◌++◌, option_map, length, not, nat_le, IfOk, IfSome};
+ghost use Rattle.std.specs.Prelude.{◌≡◌, ◌==◌, ◌<◌, ◌++◌, option_map, length, not, nat_le, IfOk, IfSome};
+ghost use Rattle.std.specs.List.{position};
 ghost use Rattle.vs_defs.specs.Limits.{max_schedule_line_bytes};
 ghost use Rattle.vs_schedule_words.specs.Cut.{before_mark, behind_mark};
 
 use vs_outside::{NoMemory, Text};
+
+// The place of the first of these bytes.
+fn place_of(text: &[u8], mark: u8) -> Option<usize>
+    ensures { result ≡ position (λ c. c == mark) text.now }
+{
+    text.iter().position(|byte| *byte == mark)
+}
 
 /// What stands before the first of these bytes, and what stands behind it, where there is one.
 pub(crate) fn cut(text: &[u8], mark: u8) -> (&[u8], Option<&[u8]>)
@@ -11,7 +19,7 @@ pub(crate) fn cut(text: &[u8], mark: u8) -> (&[u8], Option<&[u8]>)
     ensures behind { option_map (λ rest. rest.now) result.1 ≡ behind_mark mark text.now }
     ensures shorter { IfSome result.1 (λ rest. length rest.now < length text.now) }
 {
-    match text.iter().position(|byte| *byte == mark) {
+    match place_of(text, mark) {
         Some(end) => (&text[..end], Some(&text[end + 1..])),
         None => (text, None),
     }

@@ -1,7 +1,8 @@
 //! What a schedule prints. After want of memory part of it may stand in `out`.
-ghost use Rattle.std.specs.Prelude.{◌≡◌, ◌++◌, decimal, IfOk, OnOk};
+ghost use Rattle.std.specs.Prelude.{◌≡◌, ◌++◌, option_map, decimal, IfOk, OnOk};
 ghost use Rattle.vs_command.specs.Outcomes.{outcome_of};
 ghost use Rattle.vs_command.specs.Scores.{HasScores};
+ghost use Rattle.vs_schedule_words.specs.Cut.{behind_end};
 ghost use Rattle.vs_thread_defs.specs.Schedule.{in_one_line, result_text, bad_line_text};
 
 use itoa::Buffer;
@@ -10,20 +11,30 @@ use vs_command::{Answer, Refusal};
 use vs_outside::{NoMemory, Text};
 use vs_reply::{Proto, reply_into, short_reply};
 
+// What stands behind a line end at the front.
+fn behind_line_end(text: &[u8]) -> Option<&[u8]>
+    ensures behind { option_map (λ rest. rest.now) result ≡ behind_end text.now }
+{
+    match text {
+        [b'\r', b'\n', rest @ ..] => Some(rest),
+        _ => None,
+    }
+}
+
 /// Appends a reply with each line end as one space, the last one dropped.
 pub fn push_in_one_line(out: &mut Text, reply: &[u8]) -> Result<(), NoMemory>
     ensures { OnOk result (out.new ≡ out.old ++ in_one_line reply.now) }
 {
     let mut rest = reply;
     while let [byte, behind @ ..] = rest {
-        match behind {
-            [b'\n', behind @ ..] if *byte == b'\r' => {
-                if !behind.is_empty() {
+        match behind_line_end(rest) {
+            Some(next_line) => {
+                if !next_line.is_empty() {
                     out.push(b' ')?;
                 }
-                rest = behind;
+                rest = next_line;
             }
-            _ => {
+            None => {
                 out.push(*byte)?;
                 rest = behind;
             }

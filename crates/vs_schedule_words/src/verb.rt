@@ -1,5 +1,6 @@
 //! The six verbs of events.
 ghost use Rattle.std.specs.Prelude.{◌≡◌, option_map};
+ghost use Rattle.vs_defs.specs.Bytes.{same_name};
 ghost use Rattle.vs_thread_defs.specs.Schedule.{verb_text};
 ghost use Rattle.vs_schedule_words.specs.Verbs.{verb_of, verb_named};
 
@@ -14,20 +15,32 @@ pub enum Verb {
     Commit,
 }
 
+fn is(word: &[u8], name: &[u8]) -> bool
+    ensures { result ≡ same_name word.now name.now }
+{
+    word == name
+}
+
 impl Verb {
     /// The verb of a word.
     pub fn named(word: &[u8]) -> Option<Verb>
         ensures { option_map verb_of result ≡ verb_named word.now }
     {
-        match word {
-            b"do" => Some(Verb::Do),
-            b"look" => Some(Verb::Look),
-            b"finish" => Some(Verb::Finish),
-            b"draft" => Some(Verb::Draft),
-            b"prepare" => Some(Verb::Prepare),
-            b"commit" => Some(Verb::Commit),
-            _ => None,
-        }
+        Some(if is(word, b"do") {
+            Verb::Do
+        } else if is(word, b"look") {
+            Verb::Look
+        } else if is(word, b"finish") {
+            Verb::Finish
+        } else if is(word, b"draft") {
+            Verb::Draft
+        } else if is(word, b"prepare") {
+            Verb::Prepare
+        } else if is(word, b"commit") {
+            Verb::Commit
+        } else {
+            return None;
+        })
     }
 
     /// Its word.

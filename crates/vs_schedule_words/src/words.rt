@@ -1,5 +1,6 @@
 //! The words of a line.
-ghost use Rattle.std.specs.Prelude.{◌≡◌, ◌≤◌, length, IfOk, IfSome};
+ghost use Rattle.std.specs.Prelude.{◌≡◌, ◌==◌, ◌≤◌, not, length, IfOk, IfSome};
+ghost use Rattle.std.specs.List.{list_all};
 ghost use Rattle.vs_command.specs.Readings.{AreShort};
 ghost use Rattle.vs_thread_defs.specs.Schedule.{line_words as words_in, is_line_word as line_word};
 
@@ -7,11 +8,18 @@ use crate::cut::{cut, is_too_long};
 use std::alloc::Global;
 use vs_outside::{List, NoMemory, Text};
 
-// Whether it is no empty word, and one without a CR.
+// Whether there is no CR in a word.
+fn has_no_return(word: &[u8]) -> bool
+    ensures { result ≡ list_all (λ b. not (b == 13)) word.now }
+{
+    word.iter().all(|byte| *byte != b'\r')
+}
+
+// Whether it is a word, and one without a CR.
 fn is_line_word(word: &[u8]) -> bool
     ensures { result ≡ line_word word.now }
 {
-    !word.is_empty() && word.iter().all(|byte| *byte != b'\r')
+    !word.is_empty() && has_no_return(word)
 }
 
 /// The words of a line, parted by single spaces. None where one is empty or has a CR, or where the line is too long.
