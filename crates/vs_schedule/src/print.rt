@@ -42,9 +42,13 @@ fn push_outcome(
     match outcome {
         Ok(StepOutcome::Answered(answer)) => push_result(alloc, out, &Ok(answer)),
         Ok(StepOutcome::Refused(refusal)) => push_result(alloc, out, &Err(refusal)),
-        Ok(StepOutcome::Redone { cut_now, taken, answer }) => {
-            push_redone(alloc, out, cut_now, taken, &answer)
-        }
+        Ok(
+            StepOutcome::Redone {
+                cut_now,
+                taken,
+                answer,
+            },
+        ) => { push_redone(alloc, out, cut_now, taken, &answer) }
         Ok(StepOutcome::Looked) => out.extend_from_slice(b"looked"),
         Ok(StepOutcome::Drafted) => out.extend_from_slice(b"drafted"),
         Ok(StepOutcome::Direct) => out.extend_from_slice(b"direct"),

@@ -17,8 +17,7 @@ fn run_with<S: Source, K: Sink>(
     buffer: &mut [u8],
     source: &mut S,
     sink: &mut K,
-) -> ScheduleEnd
-{
+) -> ScheduleEnd {
     let mut runner = Runner::new(alloc);
     let mut taken: u64 = 0;
     while taken < SPENT {

@@ -42,12 +42,7 @@ fn open(alloc: Global, core: &mut Option<Core>, line: &[u8]) -> Result<bool, NoM
 }
 
 // A line for the core: what it prints is put into `printed`. Whether it is no bad line.
-fn happen(
-    alloc: Global,
-    core: &mut Core,
-    line: &[u8],
-    printed: &mut Text,
-) -> Result<bool, NoMemory>
+fn happen(alloc: Global, core: &mut Core, line: &[u8], printed: &mut Text) -> Result<bool, NoMemory>
     requires { printed.old ≡ [] }
     ensures runs { IfOk result (Runs core.old line.now printed.new core.new) }
 {

@@ -51,16 +51,28 @@ fn ends(rt: HostRuntime) -> Result<(), Fail> {
         (b"actors 0\n", bad(1), b"bad line 1\n"),
         (b"\nactors 65\n", bad(2), b"bad line 2\n"),
         (b"1 do - PING\n", bad(1), b"bad line 1\n"),
-        (b"actors 1\n\n1 do - PING\nactors 1\n1 do - PING\n", bad(4), b"1 do +PONG\nbad line 4\n"),
+        (
+            b"actors 1\n\n1 do - PING\nactors 1\n1 do - PING\n",
+            bad(4),
+            b"1 do +PONG\nbad line 4\n",
+        ),
         (b"actors 1\r\n", bad(1), b"bad line 1\n"),
-        (b"actors 1\n1 do - PING", ScheduleEnd::Ended, b"1 do +PONG\n"),
+        (
+            b"actors 1\n1 do - PING",
+            ScheduleEnd::Ended,
+            b"1 do +PONG\n",
+        ),
         (b"actors 1\n1 do 1 PING\n", bad(2), b"bad line 2\n"),
         (
             b"actors 1\n1 do - NOTHING\n2 do - NOTHING\n",
             ScheduleEnd::Ended,
             b"1 do -ERR unknown command\n2 do no such actor\n",
         ),
-        (b"actors 1 4 4 16\n1 do - VCARD s\n", ScheduleEnd::Ended, b"1 do :0\n"),
+        (
+            b"actors 1 4 4 16\n1 do - VCARD s\n",
+            ScheduleEnd::Ended,
+            b"1 do :0\n",
+        ),
     ];
     for (input, end, output) in cases {
         for piece in [1, 7, 16_384] {
@@ -74,8 +86,10 @@ fn ends(rt: HostRuntime) -> Result<(), Fail> {
 
 #[test]
 fn refused_words_of_a_busy_actor(rt: HostRuntime) -> Result<(), Fail> {
-    let input = b"actors 1\n1 do 1 VADD s VALUES 1 1 a\n1 look VSIM s ELE a\n1 do - NOTHING\n1 finish\n1 finish\n";
-    let output = b"1 do :1\n1 look looked\n1 do actor busy\n1 finish *1 $1 a\n1 finish actor idle\n";
+    let input =
+        b"actors 1\n1 do 1 VADD s VALUES 1 1 a\n1 look VSIM s ELE a\n1 do - NOTHING\n1 finish\n1 finish\n";
+    let output =
+        b"1 do :1\n1 look looked\n1 do actor busy\n1 finish *1 $1 a\n1 finish actor idle\n";
     let (end, written) = run(&rt, input, 5, 0, 0)?;
     assert_eq!(rt; end, ScheduleEnd::Ended);
     assert_eq!(rt; written.as_slice(), output.as_slice());

@@ -10,7 +10,7 @@ mod tests;
 mod verb;
 mod words;
 
-pub use cut::{take_line, is_too_long};
+pub use cut::{is_too_long, take_line};
 pub use drawn::drawn_words;
 pub use number::{number_within, word_number};
 pub use print::{push_bad_line, push_decimal, push_in_one_line, push_result};

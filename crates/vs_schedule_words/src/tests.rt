@@ -9,7 +9,15 @@ use vs_outside::Text;
 fn numbers(rt: HostRuntime) -> Result<(), Fail> {
     assert_eq!(&rt; word_number(b"0"), Some(0));
     assert_eq!(&rt; word_number(b"4294967295"), Some(u32::MAX));
-    let bad: [&[u8]; 7] = [b"", b"00", b"01", b"+1", b"-1", b"4294967296", b"99999999999999999999999"];
+    let bad: [&[u8]; 7] = [
+        b"",
+        b"00",
+        b"01",
+        b"+1",
+        b"-1",
+        b"4294967296",
+        b"99999999999999999999999",
+    ];
     for word in bad {
         assert_eq!(&rt; word_number(word), None);
     }

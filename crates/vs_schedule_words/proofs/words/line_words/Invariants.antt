@@ -1,6 +1,5 @@
-use Rattle.std.proofs.Common.{◌≡◌, ◌++◌, ◌+◌, ◌≤◌, ℕ, List, [], true, nat_le, Option, Some, None, All, length, option_map}
+use Rattle.std.proofs.Common.{◌≡◌, ◌++◌, [], true, option_map}
 use Rattle.std.specs.List.{list_all}
-use Rattle.vs_defs.specs.Bytes.{Bytes}
 use Rattle.vs_thread_defs.specs.Schedule.{words_from, is_line_word}
 use Rattle.vs_schedule_words.proofs.Cuts.{words_left, bytes_left}
 use Rattle.vs_schedule_words.proofs.words.line_words.Given as goal
@@ -9,8 +8,6 @@ abbrev pub invariant-loop-rest : goal.invariant-loop-rest
 invariant-loop-rest l = record {
   words : words_from [] l.fn.line ≡ l.words ++ words_left (option_map (λ t. t.now) l.rest);
   good : list_all is_line_word l.words ≡ true;
-  left : bytes_left (option_map (λ t. t.now) l.rest) ≤ length l.fn.line + 1;
-  short : All (λ w. length w ≤ length l.fn.line) l.words;
 }
 
 abbrev pub decreases-loop-rest : goal.decreases-loop-rest
