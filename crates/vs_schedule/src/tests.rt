@@ -7,6 +7,7 @@ mod interleavings;
 mod requests;
 
 use super::*;
+use std::process::Abort;
 use std::test::Fail;
 use vs_outside::{List, MemSink, MemSource, Text};
 
@@ -32,7 +33,7 @@ fn run<R: AllocGlobal>(
 }
 
 // A schedule whose source ends, in small pieces and in a whole one.
-fn check<R: AllocGlobal>(rt: &R, input: &[u8], output: &[u8]) -> Result<(), Fail> {
+fn check<R: Abort + AllocGlobal>(rt: &R, input: &[u8], output: &[u8]) -> Result<(), Fail> {
     for piece in [3, 16_384] {
         let (end, written) = run(rt, input, piece, 0, 0)?;
         assert_eq!(rt; end, ScheduleEnd::Ended);

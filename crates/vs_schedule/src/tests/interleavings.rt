@@ -44,26 +44,6 @@ fn commit_after_a_removal(rt: HostRuntime) -> Result<(), Fail> {
 }
 
 #[test]
-fn commit_after_a_removal__by_birth(rt: HostRuntime) -> Result<(), Fail> {
-    let input = b"\
-        actors 2\n\
-        1 do 1 VADD s VALUES 2 1 1 a\n\
-        1 do 1 VADD s VALUES 2 1 -1 b\n\
-        1 draft 1 VADD s VALUES 2 -1 1 c CAS\n\
-        2 do - VREM s b\n\
-        1 prepare\n\
-        1 commit\n";
-    let output = b"\
-        1 do :1\n\
-        1 do :1\n\
-        1 draft drafted\n\
-        2 do :1\n\
-        1 prepare ready\n\
-        1 commit :1\n";
-    check(&rt, input, output)
-}
-
-#[test]
 fn commit_after_key_made_again(rt: HostRuntime) -> Result<(), Fail> {
     let input = b"\
         actors 2\n\
@@ -178,24 +158,6 @@ fn hostile_name_taken(rt: HostRuntime) -> Result<(), Fail> {
 }
 
 #[test]
-fn hostile_name_taken__by_birth(rt: HostRuntime) -> Result<(), Fail> {
-    let input = b"\
-        actors 2\n\
-        1 do 1 VADD s VALUES 2 1 1 a\n\
-        1 draft 1 VADD s VALUES 2 -1 1 c CAS\n\
-        2 do 1 VADD s VALUES 2 -1 1 c\n\
-        1 prepare\n\
-        1 commit\n";
-    let output = b"\
-        1 do :1\n\
-        1 draft drafted\n\
-        2 do :1\n\
-        1 prepare ready\n\
-        1 commit stale 2 1 :0\n";
-    check(&rt, input, output)
-}
-
-#[test]
 fn hostile_replace_of_chosen(rt: HostRuntime) -> Result<(), Fail> {
     let input = b"\
         actors 2\n\
@@ -258,35 +220,5 @@ fn two_drafts_at_once(rt: HostRuntime) -> Result<(), Fail> {
         1 do :1\n\
         2 prepare ready\n\
         2 commit stale 1 1 :0\n";
-    check(&rt, input, output)
-}
-
-#[test]
-fn two_drafts_at_once__by_birth(rt: HostRuntime) -> Result<(), Fail> {
-    let input = b"\
-        actors 2\n\
-        1 do 1 VADD s VALUES 2 1 1 a\n\
-        1 draft 1 VADD s VALUES 2 -1 1 c CAS\n\
-        2 draft 1 VADD s VALUES 2 -1 -1 d CAS\n\
-        1 prepare\n\
-        2 prepare\n\
-        2 commit\n\
-        1 commit\n\
-        2 draft 1 VADD s VALUES 2 1 -1 e CAS\n\
-        1 do 1 VADD s VALUES 2 1 -1 e\n\
-        2 prepare\n\
-        2 commit\n";
-    let output = b"\
-        1 do :1\n\
-        1 draft drafted\n\
-        2 draft drafted\n\
-        1 prepare ready\n\
-        2 prepare ready\n\
-        2 commit :1\n\
-        1 commit :1\n\
-        2 draft drafted\n\
-        1 do :1\n\
-        2 prepare ready\n\
-        2 commit stale 4 1 :0\n";
     check(&rt, input, output)
 }
