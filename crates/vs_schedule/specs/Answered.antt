@@ -3,7 +3,8 @@
 --     Opens line core good      a line without a core
 --     Runs old line out new good      a line for the core
 --     Refuses n end out         what is written of a bad line
---     SoFar input line lines out n stage      the input so far is whole lines and the beginning of one, and these lines printed that
+--     Going core line rest n input out      where the run is: behind whole lines, and the beginning of one, whose number is n
+--     Took end core line n input out      the same behind a piece, or how the run ended
 use Rattle.std.specs.Prelude.{◌≡◌, ℕ, Bool, true, false, List, [], ◌++◌, Option, Some, None}
 use Rattle.vs_defs.specs.Bytes.{Bytes}
 use Rattle.vs_thread_defs.specs.Schedule.{Ends, PrintsAll, bad_line_text, lines_from, whole_lines_from}
@@ -12,6 +13,7 @@ use Rattle.vs_defs.specs.Store.{Limits}
 use Rattle.vs_thread_defs.specs.Core as core
 use Rattle.vs_thread_defs.specs.Interleaving.{State}
 use Rattle.vs_schedule.specs.Stage.{Stage, Opening, Running, StandsAt, Goes, Leads, IsBad, Breaks}
+use Rattle.vs_schedule.specs.Ends.{EndsWith}
 use Rattle.vs_schedule.specs.declared.end.ScheduleEnd.{ScheduleEnd}
 use Rattle.vs_schedule.specs.declared.end.ScheduleEnd.TheVariants.{Ended, BadLine, ReadFault, WriteFault, Spent, NoMemory}
 
@@ -39,7 +41,19 @@ Refuses n WriteFault out = IsPrefix out (bad_line_text n)
 Refuses n NoMemory out = out ≡ []
 Refuses n end out = ⊥
 
-pub record SoFar (input line : Bytes) (lines : List Bytes) (out : Bytes) (n : ℕ) (stage : Stage) : Type 0 where
-  pub all : (more : Bytes) → lines_from [] (input ++ more) ≡ lines ++ lines_from line more
-  pub whole : (more : Bytes) → whole_lines_from [] (input ++ more) ≡ lines ++ whole_lines_from line more
+-- the lines so far printed what is written so far; the line and the rest of the input so far aren't answered yet
+pub record SoFar (input line rest : Bytes) (lines : List Bytes) (out : Bytes) (n : ℕ) (stage : Stage) : Type 0 where
+  pub all : (more : Bytes) → lines_from [] (input ++ more) ≡ lines ++ lines_from line (rest ++ more)
+  pub whole : (more : Bytes) → whole_lines_from [] (input ++ more) ≡ lines ++ whole_lines_from line (rest ++ more)
   pub prints : (ls : List Bytes) (more : Bytes) (end : Ends) → Goes stage n ls more end → PrintsAll 1 (lines ++ ls) (out ++ more) end
+
+pub record Going (c : Option core.Core) (line rest : Bytes) (n : ℕ) (input out : Bytes) : Type 0 where
+  pub lines : List Bytes
+  pub stage : Stage
+  pub stands : StandsAt c stage
+  pub so_far : SoFar input line rest lines out n stage
+
+-- behind a piece: no byte of it is left, or the run has ended
+abbrev pub Took : Option ScheduleEnd → Option core.Core → Bytes → ℕ → Bytes → Bytes → Type 0
+Took None c line n input out = Going c line [] n input out
+Took (Some end) c line n input out = EndsWith end input out

@@ -1,5 +1,5 @@
 //! A schedule, from its first byte to its end.
-ghost use Rattle.std.specs.Prelude.{◌≡◌, ◌<◌, ◌↔◌, IfOk, vec_len};
+ghost use Rattle.std.specs.Prelude.{◌≡◌, ◌≢◌, ◌<◌, ◌↔◌, IfOk, length, vec_len};
 ghost use Rattle.vs_defs.specs.Bytes.{Bytes};
 ghost use Rattle.vs_outside.specs.Known.{Adds, in_front, NothingLeft};
 ghost use Rattle.vs_schedule.specs.Ends.{EndsWith};
@@ -17,7 +17,17 @@ fn run_with<S: Source, K: Sink>(
     buffer: &mut [u8],
     source: &mut S,
     sink: &mut K,
-) -> ScheduleEnd {
+) -> ScheduleEnd
+    requires some { 0 < length buffer.old }
+    requires few { length buffer.old < 65536 }
+    ensures schedule { (input : Bytes) × (output : Bytes) × (S.left source.old ≡ in_front input (S.left source.new))
+        × Adds (K.written sink.old) output (K.written sink.new) × EndsWith result input output }
+    ensures end { result ≡ ScheduleEnd.Ended → NothingLeft (S.left source.new) }
+    ensures read_fault { result ≡ ScheduleEnd.ReadFault → S.faults source.old < S.faults source.new }
+    ensures write_fault { result ≡ ScheduleEnd.WriteFault → K.faults sink.old < K.faults sink.new }
+    ensures unfailed_read { result ≢ ScheduleEnd.ReadFault → S.faults source.new ≡ S.faults source.old }
+    ensures unfailed_write { result ≢ ScheduleEnd.WriteFault → K.faults sink.new ≡ K.faults sink.old }
+{
     let mut runner = Runner::new(alloc);
     let mut taken: u64 = 0;
     while taken < SPENT {

@@ -1,9 +1,10 @@
 //! One line after another: what it prints is written whole before the next is looked at.
-ghost use Rattle.std.specs.Prelude.{◌≡◌, ◌≢◌, ◌<◌, ◌+◌, ◌^◌, [], Some, None, IfOk, OnErr};
+ghost use Rattle.std.specs.Prelude.{◌≡◌, ◌≢◌, ◌<◌, ◌≤◌, ◌+◌, ◌++◌, ◌^◌, length, [], Some, None, IfOk, OnErr};
 ghost use Rattle.vs_defs.specs.Bytes.{Bytes};
 ghost use Rattle.vs_outside.specs.Known.{Adds};
+ghost use Rattle.vs_schedule.specs.Ends.{EndsWith};
 ghost use Rattle.vs_schedule.specs.Stage.{Stage, StandsAt};
-ghost use Rattle.vs_schedule.specs.Answered.{Answers, Opens, Runs, Refuses};
+ghost use Rattle.vs_schedule.specs.Answered.{Answers, Opens, Runs, Refuses, Going, Took};
 
 use crate::ScheduleEnd;
 use crate::begins::{Beginning, read_beginning};
@@ -109,6 +110,7 @@ impl Runner {
         ensures answers { (stage : Stage) → StandsAt self.old.core stage → (out : Bytes) × (next : Stage) × Adds (K.written sink.old) out (K.written sink.new)
             × Answers self.old.number stage self.old.line result out next × (result ≡ None → StandsAt self.new.core next) }
         ensures next { result ≡ None → (self.new.line ≡ []) × (self.new.number ≡ self.old.number + 1) }
+        ensures ends { (result ≢ Some ScheduleEnd.Ended) × (result ≢ Some ScheduleEnd.ReadFault) }
         ensures failed { result ≡ Some ScheduleEnd.WriteFault → K.faults sink.old < K.faults sink.new }
         ensures unfailed { result ≢ Some ScheduleEnd.WriteFault → K.faults sink.new ≡ K.faults sink.old }
     {
@@ -133,7 +135,15 @@ impl Runner {
     }
 
     /// Takes a piece of the input, and answers each line that is then whole. A line that is too long is bad before its end is seen.
-    pub(crate) fn take<K: Sink>(&mut self, piece: &[u8], sink: &mut K) -> Option<ScheduleEnd> {
+    pub(crate) fn take<K: Sink>(&mut self, piece: &[u8], sink: &mut K) -> Option<ScheduleEnd>
+        requires { self.old.number + length piece.now < 2 ^ 63 }
+        ensures takes { (input : Bytes) (out : Bytes) → Going self.old.core self.old.line piece.now self.old.number input out → (more : Bytes)
+            × Adds (K.written sink.old) more (K.written sink.new) × Took result self.new.core self.new.line self.new.number input (out ++ more) }
+        ensures number { self.new.number ≤ self.old.number + length piece.now }
+        ensures ends { (result ≢ Some ScheduleEnd.Ended) × (result ≢ Some ScheduleEnd.ReadFault) }
+        ensures failed { result ≡ Some ScheduleEnd.WriteFault → K.faults sink.old < K.faults sink.new }
+        ensures unfailed { result ≢ Some ScheduleEnd.WriteFault → K.faults sink.new ≡ K.faults sink.old }
+    {
         let mut rest = piece;
         loop {
             match take_line(&mut self.line, rest) {
@@ -154,7 +164,14 @@ impl Runner {
     }
 
     /// Answers the last line, which has no line feed, where there is one.
-    pub(crate) fn finish<K: Sink>(mut self, sink: &mut K) -> ScheduleEnd {
+    pub(crate) fn finish<K: Sink>(mut self, sink: &mut K) -> ScheduleEnd
+        requires { self.number < 2 ^ 63 }
+        ensures ends { (input : Bytes) (out : Bytes) → Going self.core self.line [] self.number input out → (more : Bytes)
+            × Adds (K.written sink.old) more (K.written sink.new) × EndsWith result input (out ++ more) }
+        ensures unread { result ≢ ScheduleEnd.ReadFault }
+        ensures failed { result ≡ ScheduleEnd.WriteFault → K.faults sink.old < K.faults sink.new }
+        ensures unfailed { result ≢ ScheduleEnd.WriteFault → K.faults sink.new ≡ K.faults sink.old }
+    {
         if self.line.len() == 0 {
             return ScheduleEnd::Ended;
         }
