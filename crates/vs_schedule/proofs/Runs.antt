@@ -115,8 +115,8 @@ pub ends_at : (end : ScheduleEnd) (input line : Bytes) (lines ls : List Bytes) (
     → Answers n stage line (Some end) o next → EndsWith end input (out ++ o)
 ends_at (BadLine k) input line lines ls n stage next out o is prints a =
     subst (λ m. Schedules input (out ++ o) (schedule.BadLine m)) (sym a.0)
-    (subst (λ t. Schedules input (out ++ t) (schedule.BadLine n)) (sym a.1.0)
-    (subst (λ l. PrintsAll 1 l (out ++ bad_line_text n) (schedule.BadLine n)) (sym is) (prints (line ∷ ls) (bad_line_text n) (schedule.BadLine n) (a.1.1 ls))))
+    (subst (λ t. Schedules input (out ++ t) (schedule.BadLine n)) (sym a.1)
+    (subst (λ l. PrintsAll 1 l (out ++ bad_line_text n) (schedule.BadLine n)) (sym is) (prints (line ∷ ls) (bad_line_text n) (schedule.BadLine n) (a.2 ls))))
 ends_at WriteFault input line lines ls n stage next out o is prints a = breaks input line lines ls n stage out o is prints a
 ends_at NoMemory input line lines ls n stage next out o is prints a = breaks input line lines ls n stage out o is prints a
 ends_at Ended input line lines ls n stage next out o is prints a = absurd a

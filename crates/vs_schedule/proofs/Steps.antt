@@ -13,7 +13,7 @@ use Rattle.vs_thread_defs.specs.Schedule.{Ends, Line, Blank, Bad, Begins, Happen
 use Rattle.vs_thread_defs.specs.Schedule as schedule
 use Rattle.vs_core.specs.Actors.{seen_at, busy_of}
 use Rattle.vs_core.specs.Actors.{Steps}
-use Rattle.vs_schedule.specs.Answered.{Opens, Runs}
+use Rattle.vs_schedule.specs.Answered.{Carries}
 use Rattle.vs_schedule.specs.Stage.{Stage, Opening, Running, Goes, StandsAt, Leads, IsBad}
 
 -- ---- blank and bad lines
@@ -74,12 +74,12 @@ seen_unread limits h e (core.IsDrafting d) (machine.Drafting add drawn place) st
 seen_unread limits h e (core.IsReady r) (machine.Ready add drawn p) stands = refl
 seen_unread limits h e x a stands = absurd stands
 
-unread_at : (limits : Limits) (h : GraphHistory) (e : request.Refusal) (xs : List core.Seen) (as : List machine.Actor) (k : ℕ) → ActorsStand limits h xs as
-    → unread_by (busy_of (slice_get xs k)) e ≡ unread_outcome (slice_get as k) e
+unread_at : (limits : Limits) (h : GraphHistory) (e : request.Refusal) (xs : List core.Seen) (ys : List machine.Actor) (k : ℕ) → ActorsStand limits h xs ys
+    → unread_by (busy_of (slice_get xs k)) e ≡ unread_outcome (slice_get ys k) e
 unread_at limits h e [] [] k stands = refl
-unread_at limits h e (x ∷ xs) (a ∷ as) zero stands = seen_unread limits h e x a stands.0
-unread_at limits h e (x ∷ xs) (a ∷ as) (suc k) stands = unread_at limits h e xs as k stands.1
-unread_at limits h e [] (a ∷ as) k stands = absurd stands
+unread_at limits h e (x ∷ xs) (a ∷ ys) zero stands = seen_unread limits h e x a stands.0
+unread_at limits h e (x ∷ xs) (a ∷ ys) (suc k) stands = unread_at limits h e xs ys k stands.1
+unread_at limits h e [] (a ∷ ys) k stands = absurd stands
 unread_at limits h e (x ∷ xs) [] k stands = absurd stands
 
 pub unread_same : (limits : Limits) (c : core.Core) (s : State) (e : request.Refusal) (k : ℕ) → StandsFor limits c s
@@ -93,44 +93,55 @@ all_idle : (limits : Limits) (h : GraphHistory) (n : ℕ) → ActorsStand limits
 all_idle limits h zero = tt
 all_idle limits h (suc n) = (tt, all_idle limits h n)
 
-pub opens_blank : (line : Bytes) (c : Option core.Core) → c ≡ None → line_by begins line ≡ Blank → Opens line c true
-opens_blank line c none is n = (Opening, subst (λ o. StandsAt o Opening) (sym none) tt, blank_opens n line is)
+pub opens_blank : (line : Bytes) (c : Option core.Core) → c ≡ None → line_by begins line ≡ Blank → Carries None line [] c true
+opens_blank line c none is n Opening stands = (Opening, subst (λ o. StandsAt o Opening) (sym none) tt, blank_opens n line is)
+opens_blank line c none is n (Running limits s) stands = absurd stands
 
-pub opens_bad : (line : Bytes) (c : Option core.Core) → line_by begins line ≡ Bad → Opens line c false
-opens_bad line c is n = bad_opens n line is
-
+pub opens_bad : (line : Bytes) (c : Option core.Core) → line_by begins line ≡ Bad → Carries None line [] c false
+opens_bad line c is n Opening stands = bad_opens n line is
+opens_bad line c is n (Running limits s) stands = absurd stands
 
 pub opens_begun : (line : Bytes) (c : core.Core) (limits : Limits) (actors : ℕ) → c ≡ record { store = empty_store limits; actors = replicate actors core.Idle }
-    → line_by begins line ≡ Begins actors limits → Opens line (Some c) true
-opens_begun line c limits actors fresh is n =
-    let stands : StandsAt (Some (record { store = empty_store limits; actors = replicate actors core.Idle })) (Running limits (start actors)) =
+    → line_by begins line ≡ Begins actors limits → Carries None line [] (Some c) true
+opens_begun line c limits actors fresh is n Opening stands =
+    let now : StandsAt (Some (record { store = empty_store limits; actors = replicate actors core.Idle })) (Running limits (start actors)) =
     (refl, record { store = refl; legal = tt; actors = all_idle limits [] actors }) in
-    (Running limits (start actors), subst (λ (x : core.Core). StandsAt (Some x) (Running limits (start actors))) (sym fresh) stands, begins_opens n line actors limits is)
+    (Running limits (start actors), subst (λ (x : core.Core). StandsAt (Some x) (Running limits (start actors))) (sym fresh) now, begins_opens n line actors limits is)
+opens_begun line c limits actors fresh is n (Running l s) stands = absurd stands
 
-pub runs_blank : (old : core.Core) (line out : Bytes) (new : core.Core) → new ≡ old → out ≡ [] → line_by event_line line ≡ Blank → Runs old line out new true
-runs_blank old line out new same nothing is n limits s stands =
-    (Running limits s, subst (λ (x : core.Core). StandsAt (Some x) (Running limits s)) (sym same) stands,
-     subst (λ o. Leads (Running limits s) n line o (Running limits s)) (sym nothing) (blank_runs limits s n line is))
+pub runs_blank : (old : core.Core) (line out : Bytes) (new : core.Core) → new ≡ old → out ≡ [] → line_by event_line line ≡ Blank → Carries (Some old) line out (Some new) true
+runs_blank old line out new same nothing is n Opening stands = absurd stands
+runs_blank old line out new same nothing is n (Running limits s) stands = (
+  Running limits s,
+  subst (λ (x : core.Core). StandsAt (Some x) (Running limits s)) (sym same) stands,
+  subst (λ o. Leads (Running limits s) n line o (Running limits s)) (sym nothing) (blank_runs limits s n line is),
+)
 
-pub runs_bad : (old : core.Core) (line out : Bytes) (new : core.Core) → line_by event_line line ≡ Bad → Runs old line out new false
-runs_bad old line out new is n limits s stands = bad_runs limits s n line is
+pub runs_bad : (old : core.Core) (line out : Bytes) (new : core.Core) → line_by event_line line ≡ Bad → Carries (Some old) line out (Some new) false
+runs_bad old line out new is n Opening stands = absurd stands
+runs_bad old line out new is n (Running limits s) stands = bad_runs limits s n line is
 
 pub runs_event : (old : core.Core) (line out : Bytes) (new : core.Core) (verb : schedule.Verb) (k : ℕ) (e : Event) (o : Outcome)
     → line_by event_line line ≡ Happening verb e → k ≡ actor_of e → out ≡ printed k verb (outcome_text o) → Steps old e o new → new.store.limits ≡ old.store.limits
-    → Runs old line out new true
-runs_event old line out new verb k e o is by prints steps kept n limits s stands =
+    → Carries (Some old) line out (Some new) true
+runs_event old line out new verb k e o is by prints steps kept n Opening stands = absurd stands
+runs_event old line out new verb k e o is by prints steps kept n (Running limits s) stands =
     let own : StandsFor old.store.limits old s = subst (λ l. StandsFor l old s) stands.0 stands.1 in
     let step = steps s own in
-    let same : limits ≡ old.store.limits = stands.0 in
-    (Running limits step.0,
-     (same ∙ sym kept, subst (λ l. StandsFor l new step.0) (sym same) step.2),
-     subst (λ t. Leads (Running limits s) n line t (Running limits step.0)) (sym (prints ∙ ap (λ j. printed j verb (outcome_text o)) by))
-     (happens_runs limits s step.0 n line verb e o is (subst (λ l. Happens l s e o step.0) (sym same) step.1)))
+    let same : limits ≡ old.store.limits = stands.0 in (
+      Running limits step.0,
+      (same ∙ sym kept, subst (λ l. StandsFor l new step.0) (sym same) step.2),
+      subst (λ t. Leads (Running limits s) n line t (Running limits step.0)) (sym (prints ∙ ap (λ j. printed j verb (outcome_text o)) by))
+          (happens_runs limits s step.0 n line verb e o is (subst (λ l. Happens l s e o step.0) (sym same) step.1)),
+    )
 
 pub runs_unread : (old : core.Core) (line out : Bytes) (new : core.Core) (verb : schedule.Verb) (k : ℕ) (cause : request.Refusal) (o : Outcome)
     → line_by event_line line ≡ Unread k verb cause → new ≡ old → out ≡ printed k verb (outcome_text o) → o ≡ unread_by (busy_of (seen_at old k)) cause
-    → Runs old line out new true
-runs_unread old line out new verb k cause o is same prints by n limits s stands =
-    let all : out ≡ printed k verb (outcome_text (unread_outcome (actor_at s k) cause)) = prints ∙ ap (λ x. printed k verb (outcome_text x)) (by ∙ unread_same limits old s cause k stands.1) in
-    (Running limits s, subst (λ (x : core.Core). StandsAt (Some x) (Running limits s)) (sym same) stands,
-     subst (λ t. Leads (Running limits s) n line t (Running limits s)) (sym all) (unread_runs limits s n line verb k cause is))
+    → Carries (Some old) line out (Some new) true
+runs_unread old line out new verb k cause o is same prints by n Opening stands = absurd stands
+runs_unread old line out new verb k cause o is same prints by n (Running limits s) stands =
+    let all : out ≡ printed k verb (outcome_text (unread_outcome (actor_at s k) cause)) = prints ∙ ap (λ x. printed k verb (outcome_text x)) (by ∙ unread_same limits old s cause k stands.1) in (
+      Running limits s,
+      subst (λ (x : core.Core). StandsAt (Some x) (Running limits s)) (sym same) stands,
+      subst (λ t. Leads (Running limits s) n line t (Running limits s)) (sym all) (unread_runs limits s n line verb k cause is),
+    )

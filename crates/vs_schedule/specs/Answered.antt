@@ -1,7 +1,6 @@
 -- What one line does, and where a run is behind the lines so far.
 --     Answers n old line end out new       the line of number n: it leads on, or the run ends
---     Opens line core good      a line without a core
---     Runs old line out new good      a line for the core
+--     Carries old line out new good      a line is carried out, or is bad
 --     Refuses n end out         what is written of a bad line
 --     Going core line rest n input out      where the run is: behind whole lines, and the beginning of one, whose number is n
 --     Took end core line n input out      the same behind a piece, or how the run ended
@@ -9,10 +8,8 @@ use Rattle.std.specs.Prelude.{◌≡◌, ℕ, Bool, true, false, List, [], ◌++
 use Rattle.vs_defs.specs.Bytes.{Bytes}
 use Rattle.vs_thread_defs.specs.Schedule.{Ends, PrintsAll, bad_line_text, lines_from, whole_lines_from}
 use Rattle.vs_defs.specs.History.{IsPrefix}
-use Rattle.vs_defs.specs.Store.{Limits}
 use Rattle.vs_thread_defs.specs.Core as core
-use Rattle.vs_thread_defs.specs.Interleaving.{State}
-use Rattle.vs_schedule.specs.Stage.{Stage, Opening, Running, StandsAt, Goes, Leads, IsBad, Breaks}
+use Rattle.vs_schedule.specs.Stage.{Stage, StandsAt, Goes, Leads, IsBad, Breaks}
 use Rattle.vs_schedule.specs.Ends.{EndsWith}
 use Rattle.vs_schedule.specs.declared.end.ScheduleEnd.{ScheduleEnd}
 use Rattle.vs_schedule.specs.declared.end.ScheduleEnd.TheVariants.{Ended, BadLine, ReadFault, WriteFault, Spent, NoMemory}
@@ -24,15 +21,10 @@ Answers n old line (Some WriteFault) out new = Breaks old n line out
 Answers n old line (Some NoMemory) out new = Breaks old n line out
 Answers n old line (Some end) out new = ⊥
 
--- a line without a core: it names the actors or is blank, or it is bad
-abbrev pub Opens : Bytes → Option core.Core → Bool → Type 0
-Opens line c true = (n : ℕ) → (next : Stage) × StandsAt c next × Leads Opening n line [] next
-Opens line c false = (n : ℕ) → IsBad Opening n line
-
--- a line for the core: what it prints, and the core behind it, or it is bad
-abbrev pub Runs : core.Core → Bytes → Bytes → core.Core → Bool → Type 0
-Runs old line out new true = (n : ℕ) (limits : Limits) (s : State) → StandsAt (Some old) (Running limits s) → (next : Stage) × StandsAt (Some new) next × Leads (Running limits s) n line out next
-Runs old line out new false = (n : ℕ) (limits : Limits) (s : State) → StandsAt (Some old) (Running limits s) → IsBad (Running limits s) n line
+-- a line that is carried out: what it prints, and the core behind it; or it is bad
+abbrev pub Carries : Option core.Core → Bytes → Bytes → Option core.Core → Bool → Type 0
+Carries old line out new true = (n : ℕ) (stage : Stage) → StandsAt old stage → (next : Stage) × StandsAt new next × Leads stage n line out next
+Carries old line out new false = (n : ℕ) (stage : Stage) → StandsAt old stage → IsBad stage n line
 
 -- what is written of a bad line
 abbrev pub Refuses : ℕ → ScheduleEnd → Bytes → Type 0

@@ -1,8 +1,10 @@
 //! The lines behind the first: what event a line asks for.
 ghost use Rattle.std.specs.Prelude.{◌≡◌, ◌≢◌, None, IfOk, IfSome};
 ghost use Rattle.vs_command.specs.Readings.{AreShort};
+ghost use Rattle.vs_command.specs.Requests.{request_of};
+ghost use Rattle.vs_defs.specs.Bounds.{IsInBounds};
 ghost use Rattle.vs_command.specs.Refusals.{refusal_of};
-ghost use Rattle.vs_thread_defs.specs.Schedule.{event_line, line_by, do_line, draft_line, asks, bare as bare_of, read_line as read_line_of, look_event};
+ghost use Rattle.vs_thread_defs.specs.Schedule.{event_line, line_by, do_line, draft_line, asks, bare as bare_of, read_line as read_line_of, look_event, do_event as do_event_of, draft_event as draft_event_of};
 ghost use Rattle.vs_thread_defs.specs.Schedule as schedule;
 ghost use Rattle.vs_defs.specs.Read.{read};
 ghost use Rattle.vs_core.specs.Events.{event_of, FitsEvent};
@@ -12,7 +14,7 @@ ghost use Rattle.vs_schedule.specs.Lines.{Means, FitsLine};
 use std::alloc::{AllocError, Global};
 use vs_command::{Refusal, Request, draws, read_request};
 use vs_core::Event;
-use vs_outside::{NoMemory, Text};
+use vs_outside::{List, NoMemory, Text};
 use vs_schedule_words::{Verb, drawn_words, line_words, word_number};
 
 /// What a line means.
@@ -48,6 +50,40 @@ fn unread(actor: u32, verb: Verb, refusal: Refusal) -> Result<Line, NoMemory>
     }
 }
 
+// A request done at once, with as many drawn words as it takes.
+fn do_event(actor: u32, drawn: List<u32>, request: Request) -> Line
+    requires { IsInBounds (request_of request) }
+    ensures means { Means result (do_event_of actor drawn (request_of request)) }
+    ensures fits { FitsLine result }
+{
+    if drawn.len() == draws(&request) as usize {
+        Line::Happening {
+            verb: Verb::Do,
+            event: Event::Do {
+                actor,
+                request,
+                words: drawn,
+            },
+        }
+    } else {
+        Line::Bad
+    }
+}
+
+fn do_request(alloc: Global, actor: u32, drawn: List<u32>, words: &[Text]) -> Result<Line, NoMemory>
+    requires { AreShort words.now }
+    ensures means { IfOk result (λ line. Means line (asks words.now (λ ws. read_line_of actor schedule.Do (do_event_of actor drawn) (read ws)))) }
+    ensures fits { IfOk result FitsLine }
+{
+    if words.is_empty() {
+        return Ok(Line::Bad);
+    }
+    match read_request(alloc, words) {
+        Ok(request) => Ok(do_event(actor, drawn, request)),
+        Err(refusal) => unread(actor, Verb::Do, refusal),
+    }
+}
+
 fn do_words(alloc: Global, actor: u32, words: &[Text]) -> Result<Line, NoMemory>
     requires { AreShort words.now }
     ensures means { IfOk result (λ line. Means line (do_line actor words.now)) }
@@ -59,21 +95,7 @@ fn do_words(alloc: Global, actor: u32, words: &[Text]) -> Result<Line, NoMemory>
     let Some(drawn) = drawn_words(alloc, drawn.as_slice())? else {
         return Ok(Line::Bad);
     };
-    if words.is_empty() {
-        return Ok(Line::Bad);
-    }
-    match read_request(alloc, words) {
-        Ok(request) if drawn.len() == draws(&request) as usize => Ok(Line::Happening {
-            verb: Verb::Do,
-            event: Event::Do {
-                actor,
-                request,
-                words: drawn,
-            },
-        }),
-        Ok(_) => Ok(Line::Bad),
-        Err(refusal) => unread(actor, Verb::Do, refusal),
-    }
+    do_request(alloc, actor, drawn, words)
 }
 
 fn look_words(alloc: Global, actor: u32, words: &[Text]) -> Result<Line, NoMemory>
@@ -94,6 +116,41 @@ fn look_words(alloc: Global, actor: u32, words: &[Text]) -> Result<Line, NoMemor
     }
 }
 
+// A draft of an addition with CAS.
+fn draft_event(actor: u32, word: u32, request: Request) -> Line
+    requires { IsInBounds (request_of request) }
+    ensures means { Means result (draft_event_of actor word (request_of request)) }
+    ensures fits { FitsLine result }
+{
+    match request {
+        Request::Vadd(add) => {
+            if add.cas {
+                Line::Happening {
+                    verb: Verb::Draft,
+                    event: Event::Draft { actor, add, word },
+                }
+            } else {
+                Line::Bad
+            }
+        }
+        _ => Line::Bad,
+    }
+}
+
+fn draft_request(alloc: Global, actor: u32, word: u32, words: &[Text]) -> Result<Line, NoMemory>
+    requires { AreShort words.now }
+    ensures means { IfOk result (λ line. Means line (asks words.now (λ ws. read_line_of actor schedule.Draft (draft_event_of actor word) (read ws)))) }
+    ensures fits { IfOk result FitsLine }
+{
+    if words.is_empty() {
+        return Ok(Line::Bad);
+    }
+    match read_request(alloc, words) {
+        Ok(request) => Ok(draft_event(actor, word, request)),
+        Err(refusal) => unread(actor, Verb::Draft, refusal),
+    }
+}
+
 fn draft_words(alloc: Global, actor: u32, words: &[Text]) -> Result<Line, NoMemory>
     requires { AreShort words.now }
     ensures means { IfOk result (λ line. Means line (draft_line actor words.now)) }
@@ -105,17 +162,7 @@ fn draft_words(alloc: Global, actor: u32, words: &[Text]) -> Result<Line, NoMemo
     let Some(word) = word_number(word.as_slice()) else {
         return Ok(Line::Bad);
     };
-    if words.is_empty() {
-        return Ok(Line::Bad);
-    }
-    match read_request(alloc, words) {
-        Ok(Request::Vadd(add)) if add.cas => Ok(Line::Happening {
-            verb: Verb::Draft,
-            event: Event::Draft { actor, add, word },
-        }),
-        Ok(_) => Ok(Line::Bad),
-        Err(refusal) => unread(actor, Verb::Draft, refusal),
-    }
+    draft_request(alloc, actor, word, words)
 }
 
 // An event that takes no words.

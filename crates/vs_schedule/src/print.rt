@@ -1,9 +1,10 @@
 //! The line that an event prints.
 ghost use Rattle.std.specs.Prelude.{◌≡◌, ◌++◌, IfOk, OnOk};
 ghost use Rattle.vs_command.specs.Outcomes.{outcome_of};
+ghost use Rattle.vs_command.specs.Refusals.{refusal_of};
 ghost use Rattle.vs_command.specs.Scores.{HasScores};
 ghost use Rattle.vs_thread_defs.specs.Interleaving as machine;
-ghost use Rattle.vs_core.specs.Events.{step_outcome_of, StepHasScores};
+ghost use Rattle.vs_core.specs.Events.{step_outcome_of, unstepped, refused_by, StepHasScores};
 ghost use Rattle.vs_thread_defs.specs.Schedule.{outcome_text, printed};
 ghost use Rattle.vs_schedule_words.specs.Verbs.{verb_of};
 
@@ -30,6 +31,24 @@ fn push_redone(
     push_result(alloc, out, answer)
 }
 
+// Appends the text of a refusal.
+fn push_refusal(alloc: Global, out: &mut Text, refusal: Refusal) -> Result<(), NoMemory>
+    ensures { OnOk result (out.new ≡ out.old ++ outcome_text (refused_by (refusal_of refusal))) }
+{
+    push_result(alloc, out, &Err(refusal))
+}
+
+// Why there was no step.
+fn error_text(error: StepError) -> &'static [u8]
+    ensures { result.now ≡ outcome_text (unstepped error) }
+{
+    match error {
+        StepError::NoSuchActor => b"no such actor",
+        StepError::ActorBusy => b"actor busy",
+        StepError::ActorIdle => b"actor idle",
+    }
+}
+
 // Appends the text of what came of a step.
 fn push_outcome(
     alloc: Global,
@@ -41,7 +60,7 @@ fn push_outcome(
 {
     match outcome {
         Ok(StepOutcome::Answered(answer)) => push_result(alloc, out, &Ok(answer)),
-        Ok(StepOutcome::Refused(refusal)) => push_result(alloc, out, &Err(refusal)),
+        Ok(StepOutcome::Refused(refusal)) => push_refusal(alloc, out, refusal),
         Ok(
             StepOutcome::Redone {
                 cut_now,
@@ -53,9 +72,7 @@ fn push_outcome(
         Ok(StepOutcome::Drafted) => out.extend_from_slice(b"drafted"),
         Ok(StepOutcome::Direct) => out.extend_from_slice(b"direct"),
         Ok(StepOutcome::Ready) => out.extend_from_slice(b"ready"),
-        Err(StepError::NoSuchActor) => out.extend_from_slice(b"no such actor"),
-        Err(StepError::ActorBusy) => out.extend_from_slice(b"actor busy"),
-        Err(StepError::ActorIdle) => out.extend_from_slice(b"actor idle"),
+        Err(error) => out.extend_from_slice(error_text(error)),
     }
 }
 

@@ -1,10 +1,10 @@
 //! One line after another: what it prints is written whole before the next is looked at.
-ghost use Rattle.std.specs.Prelude.{◌≡◌, ◌≢◌, ◌<◌, ◌≤◌, ◌+◌, ◌++◌, ◌^◌, length, [], Some, None, IfOk, OnErr};
+ghost use Rattle.std.specs.Prelude.{◌≡◌, ◌≢◌, ◌<◌, ◌≤◌, ◌+◌, ◌++◌, ◌^◌, length, [], Some, None, IfOk};
 ghost use Rattle.vs_defs.specs.Bytes.{Bytes};
 ghost use Rattle.vs_outside.specs.Known.{Adds};
 ghost use Rattle.vs_schedule.specs.Ends.{EndsWith};
 ghost use Rattle.vs_schedule.specs.Stage.{Stage, StandsAt};
-ghost use Rattle.vs_schedule.specs.Answered.{Answers, Opens, Runs, Refuses, Going, Took};
+ghost use Rattle.vs_schedule.specs.Answered.{Answers, Carries, Refuses, Going, Took};
 
 use crate::ScheduleEnd;
 use crate::begins::{Beginning, read_beginning};
@@ -29,8 +29,7 @@ pub(crate) struct Runner {
 // A line without a core: whether it names the actors, or is blank.
 fn open(alloc: Global, core: &mut Option<Core>, line: &[u8]) -> Result<bool, NoMemory>
     requires { core.old ≡ None }
-    ensures opens { IfOk result (Opens line.now core.new) }
-    ensures err { OnErr result (core.new ≡ None) }
+    ensures carries { IfOk result (Carries None line.now [] core.new) }
 {
     match read_beginning(alloc, line)? {
         Beginning::Blank => Ok(true),
@@ -45,7 +44,7 @@ fn open(alloc: Global, core: &mut Option<Core>, line: &[u8]) -> Result<bool, NoM
 // A line for the core: what it prints is put into `printed`. Whether it is no bad line.
 fn happen(alloc: Global, core: &mut Core, line: &[u8], printed: &mut Text) -> Result<bool, NoMemory>
     requires { printed.old ≡ [] }
-    ensures runs { IfOk result (Runs core.old line.now printed.new core.new) }
+    ensures carries { IfOk result (Carries (Some core.old) line.now printed.new (Some core.new)) }
 {
     match read_line(alloc, line)? {
         Line::Blank => Ok(true),
@@ -87,6 +86,19 @@ impl Runner {
         }
     }
 
+    // Carries the line out, and puts what it prints into `printed`. Whether it is no bad line.
+    fn carry_out(&mut self) -> Result<bool, NoMemory>
+        ensures carries { IfOk result (Carries self.old.core self.old.line self.new.printed self.new.core) }
+        ensures kept { (self.new.line ≡ self.old.line) × (self.new.number ≡ self.old.number) }
+    {
+        self.printed.clear();
+        let line = self.line.as_slice();
+        match &mut self.core {
+            Some(core) => happen(self.alloc, core, line, &mut self.printed),
+            None => open(self.alloc, &mut self.core, line),
+        }
+    }
+
     // Tells that the line is bad.
     fn refuse<K: Sink>(&mut self, sink: &mut K) -> ScheduleEnd
         ensures refuses { (out : Bytes) × Adds (K.written sink.old) out (K.written sink.new) × Refuses self.old.number result out }
@@ -114,19 +126,13 @@ impl Runner {
         ensures failed { result ≡ Some ScheduleEnd.WriteFault → K.faults sink.old < K.faults sink.new }
         ensures unfailed { result ≢ Some ScheduleEnd.WriteFault → K.faults sink.new ≡ K.faults sink.old }
     {
-        self.printed.clear();
-        let line = self.line.as_slice();
-        let answered = match &mut self.core {
-            Some(core) => happen(self.alloc, core, line, &mut self.printed),
-            None => open(self.alloc, &mut self.core, line),
-        };
-        match answered {
+        match self.carry_out() {
             Ok(true) => {
                 if !write_all(sink, self.printed.as_slice()) {
                     return Some(ScheduleEnd::WriteFault);
                 }
-                self.line.clear();
                 self.number += 1;
+                self.line.clear();
                 None
             }
             Ok(false) => Some(self.refuse(sink)),
