@@ -1,6 +1,10 @@
 -- A run, line by line and piece by piece, to its end.
-use Rattle.std.proofs.Common.{◌≡◌, ◌≢◌, ◌∙◌, ℕ, ◌+◌, ◌≤◌, ◌^◌, List, [], ◌∷◌, ◌++◌, Option, Some, None, length, refl, ap, sym, subst, append_assoc, append-nil}
+use Rattle.std.proofs.Common.{◌≡◌, ◌∙◌, ℕ, ◌+◌, ◌≤◌, ◌<◌, false, nat_le, arith, ◌^◌, List, [], ◌∷◌, ◌++◌, Option, Some, None, length, refl, ap, sym, subst, append_assoc, append-nil}
 use Rattle.vs_defs.specs.Bytes.{Bytes}
+use Rattle.vs_defs.specs.Limits.{max_schedule_line_bytes}
+use Rattle.vs_outside.specs.Known.{Adds}
+use Rattle.vs_outside.proofs.KnownBytes.{Adds-trans}
+use Rattle.vs_schedule.proofs.Steps.{long_at}
 use Rattle.vs_defs.specs.History.{IsPrefix}
 use Rattle.vs_thread_defs.specs.Core as core
 use Rattle.vs_thread_defs.specs.Schedule.{Ends, PrintsAll, Schedules, SchedulesPart, SchedulesFirst, lines_from, whole_lines_from, bad_line_text}
@@ -149,8 +153,8 @@ loses n stage next line o done lost is leads = record {
 
 -- the last line, which has no line feed
 
-pub last_line : (line : Bytes) → length line ≢ 0 → lines_from line [] ≡ line ∷ []
-last_line [] some = absurd (some refl)
+pub last_line : (line : Bytes) → 0 < length line → lines_from line [] ≡ line ∷ []
+last_line [] some = absurd (omega (arith, some))
 last_line (c ∷ cs) some = refl
 
 -- the whole text of which this is left
@@ -184,3 +188,79 @@ ends_starved c line rest n input out g = record {
 
 pub ends_at_once : EndsWith NoMemory [] []
 ends_at_once = ends_starved None [] [] 1 [] [] at_start
+
+-- ---- what a caller of `answer` goes on with
+
+-- what one line came to, from wherever the run was
+abbrev pub Answered : Option core.Core → Option core.Core → ℕ → Bytes → Option ScheduleEnd → Option Bytes → Option Bytes → Type 0
+Answered c new n line result before after =
+    (stage : Stage) → StandsAt c stage → (o : Bytes) × (next : Stage) × Adds before o after × Answers n stage line result o next × (result ≡ None → StandsAt new next)
+
+pub goes_on : (c new : Option core.Core) (line rest line' behind : Bytes) (n : ℕ) (input out : Bytes) (before between after : Option Bytes) (more : Bytes) (result : Option ScheduleEnd)
+    → line' ≡ line ++ before_mark 10 rest → Some behind ≡ behind_mark 10 rest → Adds before more between → Going c line rest n input (out ++ more)
+    → Answered c new n line' result between after → result ≡ None → (all : Bytes) × Adds before all after × Going new [] behind (n + 1) input (out ++ all)
+goes_on c new line rest line' behind n input out before between after more result is some adds g answered none =
+    let a = answered g.stage g.stands in
+    let leads : Leads g.stage n line' a.0 a.1 = subst (λ r. Answers n g.stage line' r a.0 a.1) none a.3 in (
+      more ++ a.0,
+      Adds-trans before between after more a.0 adds a.2,
+      subst (Going new [] behind (n + 1) input) (append_assoc out more a.0)
+          (led_on new input line' behind g.lines n g.stage a.1 (out ++ more) a.0 g.so_far.prints
+          (cut_off line rest line' behind g.lines n input (out ++ more) g.stage is some g.so_far) (a.4 none) leads),
+    )
+
+pub stops : (c new : Option core.Core) (line rest line' behind : Bytes) (n : ℕ) (input out : Bytes) (before between after : Option Bytes) (more : Bytes) (result : Option ScheduleEnd) (end : ScheduleEnd)
+    → line' ≡ line ++ before_mark 10 rest → Some behind ≡ behind_mark 10 rest → Adds before more between → Going c line rest n input (out ++ more)
+    → Answered c new n line' result between after → result ≡ Some end → (all : Bytes) × Adds before all after × EndsWith end input (out ++ all)
+stops c new line rest line' behind n input out before between after more result end is some adds g answered ended =
+    let a = answered g.stage g.stands in
+    let cut = cut_off line rest line' behind g.lines n input (out ++ more) g.stage is some g.so_far in (
+      more ++ a.0,
+      Adds-trans before between after more a.0 adds a.2,
+      subst (EndsWith end input) (append_assoc out more a.0)
+          (ends_at end input line' g.lines (lines_from [] (behind ++ [])) n g.stage a.1 (out ++ more) a.0 (ap (lines_from []) (sym (append-nil input)) ∙ cut.0 []) g.so_far.prints
+          (subst (λ r. Answers n g.stage line' r a.0 a.1) ended a.3)),
+    )
+
+last_long : (line : Bytes) → nat_le (length line) max_schedule_line_bytes ≡ false → lines_from line [] ≡ line ∷ []
+last_long [] is = cc
+last_long (c ∷ cs) is = refl
+
+-- a line that is too long is bad before its end is seen
+pub stops_long : (c : Option core.Core) (line : Bytes) (n : ℕ) (input out : Bytes) (before between after : Option Bytes) (more o : Bytes) (end : ScheduleEnd)
+    → nat_le (length line) max_schedule_line_bytes ≡ false → Adds before more between → Going c line [] n input (out ++ more) → Adds between o after → Refuses n end o
+    → (all : Bytes) × Adds before all after × EndsWith end input (out ++ all)
+stops_long c line n input out before between after more o end long adds g wrote refuses = (
+  more ++ o,
+  Adds-trans before between after more o adds wrote,
+  subst (EndsWith end input) (append_assoc out more o)
+      (ends_at end input line g.lines [] n g.stage g.stage (out ++ more) o (whole_text c line n input (out ++ more) g ∙ ap (λ l. g.lines ++ l) (last_long line long)) g.so_far.prints
+      (refused_answers end n g.stage g.stage line o (long_at g.stage n line long) refuses)),
+)
+
+-- the last line is answered
+pub last_goes : (c new : Option core.Core) (line : Bytes) (n : ℕ) (input out : Bytes) (before after : Option Bytes) (result : Option ScheduleEnd) → 0 < length line
+    → Going c line [] n input out → Answered c new n line result before after → result ≡ None → (o : Bytes) × Adds before o after × EndsWith Ended input (out ++ o)
+last_goes c new line n input out before after result some g answered none =
+    let a = answered g.stage g.stands in
+    let leads : Leads g.stage n line a.0 a.1 = subst (λ r. Answers n g.stage line r a.0 a.1) none a.3 in
+    let all = g.so_far.prints (line ∷ []) (a.0 ++ []) schedule.Ended (leads [] [] schedule.Ended (nothing_goes a.1 (n + 1))) in (
+      a.0,
+      a.2,
+      subst (λ l. PrintsAll 1 l (out ++ a.0) schedule.Ended) (sym (whole_text c line n input out g ∙ ap (λ l. g.lines ++ l) (last_line line some)))
+          (subst (λ t. PrintsAll 1 (g.lines ++ line ∷ []) (out ++ t) schedule.Ended) (append-nil a.0) all),
+    )
+
+pub last_stops : (c new : Option core.Core) (line : Bytes) (n : ℕ) (input out : Bytes) (before after : Option Bytes) (result : Option ScheduleEnd) (end : ScheduleEnd) → 0 < length line
+    → Going c line [] n input out → Answered c new n line result before after → result ≡ Some end → (o : Bytes) × Adds before o after × EndsWith end input (out ++ o)
+last_stops c new line n input out before after result end some g answered ended =
+    let a = answered g.stage g.stands in (
+      a.0,
+      a.2,
+      ends_at end input line g.lines [] n g.stage a.1 out a.0 (whole_text c line n input out g ∙ ap (λ l. g.lines ++ l) (last_line line some)) g.so_far.prints
+          (subst (λ r. Answers n g.stage line r a.0 a.1) ended a.3),
+    )
+
+pub no_bytes : (line : Bytes) → length line ≡ 0 → line ≡ []
+no_bytes [] is = refl
+no_bytes (c ∷ cs) is = absurd (omega (arith, is))

@@ -13,6 +13,7 @@ use Rattle.vs_thread_defs.specs.Schedule.{Ends, Line, Blank, Bad, Begins, Happen
 use Rattle.vs_thread_defs.specs.Schedule as schedule
 use Rattle.vs_core.specs.Actors.{seen_at, busy_of}
 use Rattle.vs_core.specs.Actors.{Steps}
+use Rattle.vs_schedule.specs.Lines.{unread_by}
 use Rattle.vs_schedule.specs.Answered.{Carries}
 use Rattle.vs_schedule.specs.Stage.{Stage, Opening, Running, Goes, StandsAt, Leads, IsBad}
 
@@ -60,11 +61,6 @@ long_at Opening n line is = bad_opens n line (long_is_bad begins line is)
 long_at (Running limits s) n line is = bad_runs limits s n line (long_is_bad event_line line is)
 
 -- ---- an actor, as the core and as the machine have it
-
--- what words that aren't read print, by what a core says of the actor
-abbrev pub unread_by : Option Outcome → request.Refusal → Outcome
-unread_by None e = machine.Refused e
-unread_by (Some o) e = o
 
 seen_unread : (limits : Limits) (h : GraphHistory) (e : request.Refusal) (x : core.Seen) (a : machine.Actor) → ActorStands limits h x a
     → unread_by (busy_of (Some x)) e ≡ unread_outcome (Some a) e

@@ -2,12 +2,14 @@
 --     beginning_of meant       the definitions' meaning of a first line
 --     HasUsualLimits meant     its actors and limits are within the usual ones
 --     Means meant line         the definitions' meaning of any other line
+--     unread_by error refusal  what comes of words that aren't read, by what a core says of the actor
 --     FitsLine meant           its event is one that a core takes
-use Rattle.std.specs.Prelude.{◌≡◌, ℕ, Some, option_and_then, option_map, Option}
+use Rattle.std.specs.Prelude.{◌≡◌, ℕ, Some, None, option_and_then, option_map, Option}
 use Rattle.vs_defs.specs.Bytes.{Bytes}
 use Rattle.vs_defs.specs.Store as store
 use Rattle.vs_defs.specs.Store.{usual_limits}
 use Rattle.vs_defs.specs.Request as request
+use Rattle.vs_thread_defs.specs.Interleaving as machine
 use Rattle.vs_thread_defs.specs.Schedule as schedule
 use Rattle.vs_thread_defs.specs.Schedule.{number_within}
 use Rattle.vs_command.specs.Refusals.{refusal_of}
@@ -52,3 +54,7 @@ FitsLine Blank = Unit {0}
 FitsLine Bad = Unit {0}
 FitsLine (Happening verb event) = FitsEvent event
 FitsLine (Unread actor verb refusal) = Unit {0}
+
+abbrev pub unread_by : Option machine.Outcome → request.Refusal → machine.Outcome
+unread_by None e = machine.Refused e
+unread_by (Some o) e = o

@@ -1,5 +1,5 @@
 //! The first line of a schedule, which names the actors and may name lesser limits.
-ghost use Rattle.std.specs.Prelude.{◌≡◌, option_map, IfOk, IfSome};
+ghost use Rattle.std.specs.Prelude.{◌≡◌, ◌∷◌, [], option_map, IfOk, IfSome};
 ghost use Rattle.vs_store.specs.Kept.{AreUsual};
 ghost use Rattle.vs_store.specs.Seen.{limits_seen};
 ghost use Rattle.vs_thread_defs.specs.Schedule.{begins, line_by};
@@ -47,6 +47,19 @@ fn begun(actors: Option<u32>, limits: Option<Limits>) -> Beginning
     }
 }
 
+fn begin_with_limits(name: &[u8], actors: &[u8], set: &[u8], keys: &[u8], all: &[u8]) -> Beginning
+    ensures means { beginning_of result ≡ begins (name.now ∷ actors.now ∷ set.now ∷ keys.now ∷ all.now ∷ []) }
+    ensures limits { HasUsualLimits result }
+{
+    if name != b"actors".as_slice() {
+        return Beginning::Bad;
+    }
+    begun(
+        number_within(1, MAX_ACTORS, actors),
+        lesser_limits(set, keys, all),
+    )
+}
+
 // What the words of the first line mean.
 fn words_begin(words: &[Text]) -> Beginning
     ensures means { beginning_of result ≡ begins words.now }
@@ -57,9 +70,12 @@ fn words_begin(words: &[Text]) -> Beginning
             number_within(1, MAX_ACTORS, actors.as_slice()),
             Some(Limits::usual()),
         ),
-        [name, actors, set, keys, all] if name.as_slice() == b"actors".as_slice() => begun(
-            number_within(1, MAX_ACTORS, actors.as_slice()),
-            lesser_limits(set.as_slice(), keys.as_slice(), all.as_slice()),
+        [name, actors, set, keys, all] => begin_with_limits(
+            name.as_slice(),
+            actors.as_slice(),
+            set.as_slice(),
+            keys.as_slice(),
+            all.as_slice(),
         ),
         _ => Beginning::Bad,
     }

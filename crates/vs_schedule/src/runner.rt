@@ -1,6 +1,11 @@
 //! One line after another: what it prints is written whole before the next is looked at.
 ghost use Rattle.std.specs.Prelude.{◌≡◌, ◌≢◌, ◌<◌, ◌≤◌, ◌+◌, ◌++◌, ◌^◌, length, [], Some, None, IfOk};
 ghost use Rattle.vs_defs.specs.Bytes.{Bytes};
+ghost use Rattle.vs_defs.specs.Request as request;
+ghost use Rattle.vs_command.specs.Refusals.{refusal_of};
+ghost use Rattle.vs_core.specs.Actors.{seen_at, busy_of};
+ghost use Rattle.vs_core.specs.Events.{step_outcome_of, StepHasScores};
+ghost use Rattle.vs_schedule.specs.Lines.{unread_by};
 ghost use Rattle.vs_outside.specs.Known.{Adds};
 ghost use Rattle.vs_schedule.specs.Ends.{EndsWith};
 ghost use Rattle.vs_schedule.specs.Stage.{Stage, StandsAt};
@@ -11,8 +16,9 @@ use crate::begins::{Beginning, read_beginning};
 use crate::line::{Line, read_line};
 use crate::print::push_event;
 use std::alloc::Global;
+use vs_command::Refusal;
 use vs_connection::write_all;
-use vs_core::{Core, StepOutcome};
+use vs_core::{Core, StepError, StepOutcome};
 use vs_outside::{NoMemory, Sink, Text};
 use vs_schedule_words::{is_too_long, push_bad_line, take_line};
 
@@ -41,6 +47,17 @@ fn open(alloc: Global, core: &mut Option<Core>, line: &[u8]) -> Result<bool, NoM
     }
 }
 
+// What comes of words that aren't read: the errors of the actor come first.
+fn unread_outcome(core: &Core, actor: u32, refusal: Refusal) -> Result<StepOutcome, StepError>
+    ensures outcome { (cause : request.Refusal) → refusal_of refusal ≡ Some cause → step_outcome_of result ≡ unread_by (busy_of (seen_at core.now actor)) cause }
+    ensures scores { IfOk result StepHasScores }
+{
+    match core.busy(actor) {
+        Some(error) => Err(error),
+        None => Ok(StepOutcome::Refused(refusal)),
+    }
+}
+
 // A line for the core: what it prints is put into `printed`. Whether it is no bad line.
 fn happen(alloc: Global, core: &mut Core, line: &[u8], printed: &mut Text) -> Result<bool, NoMemory>
     requires { printed.old ≡ [] }
@@ -60,10 +77,7 @@ fn happen(alloc: Global, core: &mut Core, line: &[u8], printed: &mut Text) -> Re
             verb,
             refusal,
         } => {
-            let outcome = match core.busy(actor) {
-                Some(error) => Err(error),
-                None => Ok(StepOutcome::Refused(refusal)),
-            };
+            let outcome = unread_outcome(core, actor, refusal);
             push_event(alloc, printed, actor, verb, outcome)?;
             Ok(true)
         }
@@ -181,6 +195,9 @@ impl Runner {
         if self.line.len() == 0 {
             return ScheduleEnd::Ended;
         }
-        self.answer(sink).unwrap_or(ScheduleEnd::Ended)
+        match self.answer(sink) {
+            Some(end) => end,
+            None => ScheduleEnd::Ended,
+        }
     }
 }
