@@ -1,5 +1,5 @@
 -- What lines mean, from what their words mean.
-use Rattle.std.proofs.Common.{◌≡◌, ◌∙◌, ◌&&◌, ℕ, ◌≤◌, ◌<◌, Bool, true, false, cond, nat_le, List, [], ◌∷◌, Option, Some, None, option_map, option_and_then, length, codes, refl, ap, sym, subst, arith}
+use Rattle.std.proofs.Common.{◌≡◌, ◌∙◌, ◌&&◌, ◌==◌, ℕ, ◌≤◌, ◌<◌, Bool, true, false, cond, nat_le, List, [], ◌∷◌, Option, Some, None, option_map, option_and_then, length, codes, refl, ap, sym, subst, arith}
 use Rattle.std.proofs.lemmas.Bool.Decides.{nat_tests}
 use Rattle.std.proofs.lemmas.Option.{same_Some}
 use Rattle.vs_defs.specs.Bytes.{Bytes, same_name}
@@ -13,6 +13,10 @@ use Rattle.vs_thread_defs.specs.Schedule.{Line, Bad, Begins, begins, line_by, li
 use Rattle.vs_command.specs.Outcomes as outcomes
 use Rattle.vs_core.specs.Events.{refused_by}
 use Rattle.vs_schedule.specs.Lines.{beginning_by, limits_named}
+
+pub nonempty : (line : Bytes) → (length line == 0) ≡ false → 0 < length line
+nonempty [] is = cc
+nonempty (c ∷ cs) is = omega arith
 
 pub line_of_words : (f : List Bytes → Line) (line : Bytes) (ws : List Bytes) → 0 < length line → line_words line ≡ Some ws → line_by f line ≡ f ws
 line_of_words f [] ws some is = absurd (omega (arith, some))

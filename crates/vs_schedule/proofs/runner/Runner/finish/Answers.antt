@@ -1,4 +1,4 @@
-use Rattle.std.proofs.Common.{◌≡◌, ◌<◌, [], length, sym, subst, append-nil, arith}
+use Rattle.std.proofs.Common.{rules, ◌≡◌, ◌<◌, [], None, length, sym, subst, append-nil, arith}
 use Rattle.vs_outside.proofs.KnownBytes.{Adds-none}
 use Rattle.vs_schedule.specs.Ends.{EndsWith}
 use Rattle.vs_schedule.specs.declared.end.ScheduleEnd.TheVariants.{Ended}
@@ -16,8 +16,9 @@ returns-in-Some-clause-ends g c input out going =
     last_stops c.args.self.core c.answer.new.self.core c.args.self.line c.args.self.number input out (g.K.Sink.written c.args.sink.now) (g.K.Sink.written c.answer.new.sink) c.answer.result c.in-Some.end
     some going c.answer.ensures.answers c.in-Some.is
 
-pub returns-in-None-clause-ends : goal.returns-in-None-clause-ends
-returns-in-None-clause-ends g c input out going =
+pub returns-clause-ends : goal.returns-clause-ends
+returns-clause-ends g c input out going =
+    let none : c.answer.result ≡ None = search rules in
     let some : 0 < length c.args.self.line = grind arith in
     last_goes c.args.self.core c.answer.new.self.core c.args.self.line c.args.self.number input out (g.K.Sink.written c.args.sink.now) (g.K.Sink.written c.answer.new.sink) c.answer.result
-    some going c.answer.ensures.answers c.in-None.is
+    some going c.answer.ensures.answers none
