@@ -264,3 +264,7 @@ last_stops c new line n input out before after result end some g answered ended 
 pub no_bytes : (line : Bytes) → length line ≡ 0 → line ≡ []
 no_bytes [] is = refl
 no_bytes (c ∷ cs) is = absurd (omega (arith, is))
+
+pub at_fresh : (c : Option core.Core) (line : Bytes) (n : ℕ) → c ≡ None → line ≡ [] → n ≡ 1 → Going c line [] n [] []
+at_fresh c line n is nothing one =
+    subst (λ o. Going o line [] n [] []) (sym is) (subst (λ l. Going None l [] n [] []) (sym nothing) (subst (λ m. Going None [] [] m [] []) (sym one) at_start))
