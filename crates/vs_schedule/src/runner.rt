@@ -159,7 +159,7 @@ impl Runner {
         requires { self.old.number + length piece.now < 2 ^ 63 }
         ensures takes { (input : Bytes) (out : Bytes) → Going self.old.core self.old.line piece.now self.old.number input out → (more : Bytes)
             × Adds (K.written sink.old) more (K.written sink.new) × Took result self.new.core self.new.line self.new.number input (out ++ more) }
-        ensures number { self.new.number ≤ self.old.number + length piece.now }
+        ensures number { result ≡ None → self.new.number ≤ self.old.number + length piece.now }
         ensures ends { (result ≢ Some ScheduleEnd.Ended) × (result ≢ Some ScheduleEnd.ReadFault) }
         ensures failed { result ≡ Some ScheduleEnd.WriteFault → K.faults sink.old < K.faults sink.new }
         ensures unfailed { result ≢ Some ScheduleEnd.WriteFault → K.faults sink.new ≡ K.faults sink.old }
