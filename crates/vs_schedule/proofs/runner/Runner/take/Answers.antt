@@ -1,4 +1,4 @@
-use Rattle.std.proofs.Common.{rules, ◌≡◌, ◌∙◌, ◌++◌, [], Some, None, false, nat_le, length, option_map, ap, sym, subst, arith}
+use Rattle.std.proofs.Common.{rules, ◌≡◌, ◌∙◌, ◌++◌, [], Some, None, false, nat_le, length, option_map, ap, sym, subst, arith, refl}
 use Rattle.vs_defs.specs.Limits.{max_schedule_line_bytes}
 use Rattle.vs_schedule.specs.Answered.{Going}
 use Rattle.vs_schedule.proofs.Runs.{ends_starved, stops, goes_on, no_line, stops_long}
@@ -22,7 +22,7 @@ returns-in-Some-clause-takes g c input out start =
 pub loop-behind-preserved : goal.loop-behind-preserved
 loop-behind-preserved g c =
     let s = c.loop-behind.self in
-    let next = c.in_default.ensures.next c.in_default.is in
+    let next = c.in_default.ensures.next refl in
     let behind = ap (option_map (λ r. r.now)) (sym c.in-Ok-Some.field-0-is) ∙ c.in-Ok-Some.ensures.behind in
     record {
       going = λ input out start.
