@@ -1,4 +1,4 @@
-use Rattle.std.proofs.Common.{rules, ◌≡◌, ◌∙◌, ◌++◌, [], Some, None, false, nat_le, length, option_map, ap, sym, subst, arith, refl}
+use Rattle.std.proofs.Common.{rules, ◌≡◌, ◌∙◌, ◌++◌, ◌<◌, [], Some, None, false, nat_le, length, option_map, ap, sym, subst, arith, refl}
 use Rattle.vs_defs.specs.Limits.{max_schedule_line_bytes}
 use Rattle.vs_schedule.specs.Answered.{Going}
 use Rattle.vs_schedule.proofs.Runs.{ends_starved, stops, goes_on, no_line, stops_long}
@@ -23,6 +23,7 @@ pub loop-behind-preserved : goal.loop-behind-preserved
 loop-behind-preserved g c =
     let s = c.loop-behind.self in
     let next = c.in_default.ensures.next refl in
+    let shorter : length c.in-Ok-Some.behind.now < length c.loop-behind.rest.now = search rules in
     let behind = ap (option_map (λ r. r.now)) (sym c.in-Ok-Some.field-0-is) ∙ c.in-Ok-Some.ensures.behind in
     record {
       going = λ input out start.
@@ -35,7 +36,7 @@ loop-behind-preserved g c =
             subst (λ l. Going c.answer.new.self.core l c.in-Ok-Some.behind.now c.answer.new.self.number input (out ++ r.0)) (sym next.0)
                 (subst (λ m. Going c.answer.new.self.core [] c.in-Ok-Some.behind.now m input (out ++ r.0)) (sym next.1) r.2),
           );
-      number = omega (arith, c.loop-behind.invariant.number, c.in-Ok-Some.ensures.shorter, next.1);
+      number = omega (arith, c.loop-behind.invariant.number, shorter, next.1);
       faults = c.in_default.ensures.unfailed (λ e. cc) ∙ c.loop-behind.invariant.faults;
     }
 
