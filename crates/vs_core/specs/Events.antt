@@ -1,7 +1,8 @@
 -- Events and what comes of them, as those of the machine of interleavings.
 --     event_of, step_outcome_of      the event, the outcome
+--     StepHasScores outcome          its answer has scores that can be printed
 --     FitsEvent event                its request is within bounds, with as many words as it draws; an addition to be drafted has CAS
-use Rattle.std.specs.Prelude.{◌≡◌, IsTrue, Option, Some, None, Result, Ok, Err, length}
+use Rattle.std.specs.Prelude.{◌≡◌, IsTrue, Option, Some, None, Result, Ok, Err, IfOk, length}
 use Rattle.vs_defs.specs.Bounds.{IsInBounds, IsSearchInBounds, IsAddInBounds}
 use Rattle.vs_defs.specs.Read.{draws}
 use Rattle.vs_defs.specs.Request as request
@@ -10,6 +11,7 @@ use Rattle.vs_bits.specs.Requests.{add_of}
 use Rattle.vs_command.specs.Answers.{answer_of}
 use Rattle.vs_command.specs.Refusals.{refusal_of}
 use Rattle.vs_command.specs.Outcomes.{outcome_of}
+use Rattle.vs_command.specs.Scores.{HasScores}
 use Rattle.vs_command.specs.Requests.{request_of, search_of}
 use Rattle.vs_core.specs.declared.event.Event.{Event}
 use Rattle.vs_core.specs.declared.event.Event.TheVariants.{Do, Look, Finish, Draft, Prepare, Commit}
@@ -48,6 +50,11 @@ unstepped ActorIdle = machine.ActorIdle
 abbrev pub step_outcome_of : Result StepOutcome StepError → machine.Outcome
 step_outcome_of (Ok o) = stepped o
 step_outcome_of (Err e) = unstepped e
+
+abbrev pub StepHasScores : StepOutcome → Type 0
+StepHasScores (Answered a) = HasScores a
+StepHasScores (Redone cut taken answer) = IfOk answer HasScores
+StepHasScores o = Unit {0}
 
 abbrev pub FitsEvent : Event → Type 0
 FitsEvent (Do k r words) = IsInBounds (request_of r) × (length words ≡ draws (request_of r))

@@ -1,12 +1,12 @@
 //! An addition with CAS in two of its three events: its draft, and the choice of its links.
-ghost use Rattle.std.specs.Prelude.{◌≡◌, ◌<◌, ℕ, IsTrue, OnErr};
+ghost use Rattle.std.specs.Prelude.{◌≡◌, ◌<◌, ℕ, IsTrue, IfOk, OnErr};
 ghost use Rattle.vs_defs.specs.Bounds.{IsAddInBounds};
 ghost use Rattle.vs_defs.specs.Store.{Store as Sets, Set};
 ghost use Rattle.vs_thread_defs.specs.Core.{IsDrafting};
 ghost use Rattle.vs_thread_defs.specs.Interleaving as machine;
 ghost use Rattle.vs_bits.specs.Requests.{add_of};
 ghost use Rattle.vs_core.specs.Actors.{actor_seen};
-ghost use Rattle.vs_core.specs.Events.{stepped, step_outcome_of};
+ghost use Rattle.vs_core.specs.Events.{stepped, step_outcome_of, StepHasScores};
 ghost use Rattle.vs_core.specs.Turns.{Turns};
 
 use crate::actor::Actor;
@@ -30,6 +30,7 @@ pub(crate) fn draft(
     requires bounds { IsAddInBounds (add_of add) }
     requires cas { IsTrue add.cas }
     ensures turns { (k : ℕ) → Turns (machine.Draft k (add_of add) word) store.now (actor_seen actor.old) (step_outcome_of result) store.now (actor_seen actor.new) }
+    ensures scores { IfOk result StepHasScores }
     ensures err { OnErr result (actor.new ≡ actor.old) }
 {
     if !actor.is_idle() {
@@ -52,7 +53,8 @@ fn choose<L: Ledger>(drafting: Drafting, slot: &mut Slot, blank: Blank) -> (Acto
     requires name { blank.name ≡ L.name }
     requires parts { blank.parts ≡ L.parts }
     requires some { 0 < L.parts }
-    ensures { (k : ℕ) (store : Sets Set) → Turns (machine.Prepare k) store (IsDrafting drafting) (stepped result.1) store (actor_seen result.0) }
+    ensures turns { (k : ℕ) (store : Sets Set) → Turns (machine.Prepare k) store (IsDrafting drafting) (stepped result.1) store (actor_seen result.0) }
+    ensures scores { StepHasScores result.1 }
 {
     let mut reads = Steps::<L>::new(blank);
     match Store::prepare(drafting, slot, &mut reads) {
@@ -64,6 +66,7 @@ fn choose<L: Ledger>(drafting: Drafting, slot: &mut Slot, blank: Blank) -> (Acto
 /// Chooses whom a drafted addition is to be linked to, in the set at the draft.
 pub(crate) fn prepare(actor: &mut Actor, slot: &mut Slot) -> Result<StepOutcome, StepError>
     ensures turns { (k : ℕ) (store : Sets Set) → Turns (machine.Prepare k) store (actor_seen actor.old) (step_outcome_of result) store (actor_seen actor.new) }
+    ensures scores { IfOk result StepHasScores }
     ensures err { OnErr result (actor.new ≡ actor.old) }
 {
     match mem::replace(actor, Actor::Idle) {

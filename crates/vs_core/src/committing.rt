@@ -1,11 +1,11 @@
 //! The commit of a ready addition. A stale one does its request again in the same event; else no search is run.
-ghost use Rattle.std.specs.Prelude.{◌≡◌, ◌<◌, Some, None, OnErr};
+ghost use Rattle.std.specs.Prelude.{◌≡◌, ◌<◌, Some, None, IfOk, OnErr};
 ghost use Rattle.vs_defs.specs.Stale.{stale_by};
 ghost use Rattle.vs_defs.specs.Store.{set_of};
 ghost use Rattle.vs_thread_defs.specs.Core.{Idle, IsReady};
 ghost use Rattle.vs_thread_defs.specs.Interleaving as machine;
 ghost use Rattle.vs_core.specs.Actors.{actor_seen};
-ghost use Rattle.vs_core.specs.Events.{stepped, step_outcome_of};
+ghost use Rattle.vs_core.specs.Events.{stepped, step_outcome_of, StepHasScores};
 ghost use Rattle.vs_core.specs.Turns.{Stands, Turns};
 
 use crate::actor::Actor;
@@ -29,7 +29,8 @@ fn redo(
     taken: bool,
 ) -> StepOutcome
     requires { stale_by ready.cut ready.add.name (set_of ready.add.key store.old) ≡ Some (cut_now, taken) }
-    ensures { Turns (machine.Commit number) store.old (IsReady ready) (stepped result) store.new Idle }
+    ensures turns { Turns (machine.Commit number) store.old (IsReady ready) (stepped result) store.new Idle }
+    ensures scores { StepHasScores result }
 {
     let (add, word) = ready.into_add();
     let request = Request::Vadd(add);
@@ -53,7 +54,8 @@ fn commit_fresh<L: Ledger>(
     requires some { 0 < L.parts }
     requires fresh { stale_by ready.cut ready.add.name (set_of ready.add.key store.old) ≡ None }
     requires stands { Stands store.old (IsReady ready) }
-    ensures { Turns (machine.Commit number) store.old (IsReady ready) (stepped result) store.new Idle }
+    ensures turns { Turns (machine.Commit number) store.old (IsReady ready) (stepped result) store.new Idle }
+    ensures scores { StepHasScores result }
 {
     draft_laws();
     let _add = ready.add();
@@ -69,7 +71,8 @@ fn commit_fresh<L: Ledger>(
 // Commits an addition, or does its request again where it is stale.
 fn commit_ready(store: &mut Store, slot: &mut Slot, number: u32, ready: Ready) -> StepOutcome
     requires { Stands store.old (IsReady ready) }
-    ensures { Turns (machine.Commit number) store.old (IsReady ready) (stepped result) store.new Idle }
+    ensures turns { Turns (machine.Commit number) store.old (IsReady ready) (stepped result) store.new Idle }
+    ensures scores { StepHasScores result }
 {
     match store.stale(&ready) {
         Some((cut_now, taken)) => redo(store, slot, number, ready, cut_now, taken),
@@ -86,6 +89,7 @@ pub(crate) fn commit(
 ) -> Result<StepOutcome, StepError>
     requires { Stands store.old (actor_seen actor.old) }
     ensures turns { Turns (machine.Commit number) store.old (actor_seen actor.old) (step_outcome_of result) store.new (actor_seen actor.new) }
+    ensures scores { IfOk result StepHasScores }
     ensures store { OnErr result (store.new ≡ store.old) }
     ensures actor { OnErr result (actor.new ≡ actor.old) }
 {

@@ -4,7 +4,7 @@ ghost use Rattle.vs_defs.specs.Store.{empty_store};
 ghost use Rattle.vs_thread_defs.specs.Core.{StandsFor, Idle};
 ghost use Rattle.vs_thread_defs.specs.Interleaving.{State, Run};
 ghost use Rattle.vs_core.specs.Actors.{Steps, seen_at, busy_of};
-ghost use Rattle.vs_core.specs.Events.{FitsEvent, event_of, step_outcome_of, unstepped};
+ghost use Rattle.vs_core.specs.Events.{FitsEvent, event_of, step_outcome_of, unstepped, StepHasScores};
 ghost use Rattle.vs_store.specs.Kept.{AreUsual};
 ghost use Rattle.vs_store.specs.Seen.{limits_seen};
 
@@ -87,6 +87,7 @@ impl Core {
         requires { FitsEvent event }
         ensures steps { Steps self.old (event_of event) (step_outcome_of result) self.new }
         ensures limits { self.new.store.limits ≡ self.old.store.limits }
+        ensures scores { IfOk result StepHasScores }
         ensures err { OnErr result (self.new ≡ self.old) }
     {
         let Some(place) = self.place_of(event.actor()) else {

@@ -1,7 +1,7 @@
 //! One event, for the store and one actor alone.
-ghost use Rattle.std.specs.Prelude.{◌≡◌, OnErr};
+ghost use Rattle.std.specs.Prelude.{◌≡◌, IfOk, OnErr};
 ghost use Rattle.vs_core.specs.Actors.{actor_seen};
-ghost use Rattle.vs_core.specs.Events.{FitsEvent, event_of, step_outcome_of};
+ghost use Rattle.vs_core.specs.Events.{FitsEvent, event_of, step_outcome_of, StepHasScores};
 ghost use Rattle.vs_core.specs.Turns.{Stands, Turns};
 
 use crate::actor::Actor;
@@ -23,6 +23,7 @@ pub(crate) fn take_turn(
     requires fits { FitsEvent event }
     requires stands { Stands store.old (actor_seen actor.old) }
     ensures turns { Turns (event_of event) store.old (actor_seen actor.old) (step_outcome_of result) store.new (actor_seen actor.new) }
+    ensures scores { IfOk result StepHasScores }
     ensures store { OnErr result (store.new ≡ store.old) }
     ensures actor { OnErr result (actor.new ≡ actor.old) }
 {

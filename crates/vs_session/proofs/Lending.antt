@@ -109,7 +109,7 @@ module _ (limits : Limits) (end : SessionEnd) (old now : Knower) (loan loan_now 
   pub serves_pass : ServesPass limits end old input output now
   serves_pass =
       let to : point_by (λ (h : Lent). h.history) ended.now ≡ point_of now =
-          ap (λ (s : GraphHistory). record { history = s; generator = ended.now.generator }) (sym ended.there.seen) ∙ ap (λ (g : Lcg). record { history = now.seen; generator = g }) (sym ended.there.stream) in record {
+      ap (λ (s : GraphHistory). record { history = s; generator = ended.now.generator }) (sym ended.there.seen) ∙ ap (λ (g : Lcg). record { history = now.seen; generator = g }) (sym ended.there.stream) in record {
         is_end = subst (λ (p : Point GraphHistory). IsEnd (GraphCall limits) old.number end (point_of old) input output p) to
             (end_over (λ (h : Lent). h.history) (lent_call limits) (GraphCall limits) old.number (λ h r words o t c. c.0) (lent_point old loan) ended.now end input output ended.is_end);
         number = ended.there.number;

@@ -11,6 +11,7 @@ returns-in_default c =
     let e = machine.Commit c.args.number in
     let store = c.args.store.now in record {
       turns = subst (λ x. Turns e store x machine.ActorIdle store now) (ap actor_seen c.replace.ensures.value) (unsuited e store now (not_ready c.replace.result c.in_default.not-Ready));
+      scores = tt;
       store = refl;
       actor = c.replace.ensures.value;
     }

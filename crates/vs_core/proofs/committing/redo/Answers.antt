@@ -5,8 +5,8 @@ use Rattle.vs_command.specs.Outcomes.{outcome_of}
 use Rattle.vs_core.proofs.Turning.{redone}
 use Rattle.vs_core.proofs.committing.redo.Goals as goal
 
-pub returns : goal.returns
-returns c =
+pub returns-clause-turns : goal.returns-clause-turns
+returns-clause-turns c =
     let old = c.args.store.now in
     let new = c.do_now-answer.new.self in
     let o = outcome_of c.do_now-answer.result in

@@ -21,5 +21,5 @@ returns-clause-turns c =
     let new = c.do_now-done.new.self in
     let idle = idle_is (actor_seen c.args.actor.now) (sym c.is_idle.ensures ∙ c.if-not-is_idle.false) in
     subst (λ x. Turns e old x (stepped c.outcome.result) new x) (sym idle)
-    (subst (λ o. Turns e old Idle o new Idle) (sym c.outcome.ensures)
+    (subst (λ o. Turns e old Idle o new Idle) (sym c.outcome.ensures.outcome)
     (done c.args.number r c.args.words.now old new (outcome_of c.do_now-done.result) c.requires.bounds c.requires.words c.do_now-done.ensures.does))

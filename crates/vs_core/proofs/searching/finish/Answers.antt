@@ -10,5 +10,6 @@ returns-in_default c =
     let now = actor_seen c.replace.result in record {
       turns = λ k store.
           subst (λ x. Turns (machine.Finish k) store x machine.ActorIdle store now) (ap actor_seen c.replace.ensures.value) (unsuited (machine.Finish k) store now (not_looking c.replace.result c.in_default.not-Looking));
+      scores = tt;
       err = c.replace.ensures.value;
     }

@@ -9,6 +9,5 @@ returns-in_default-clause-served g c = record { log = []; legal = tt; each = ser
 pub returns-in_default-open-clause-served : goal.returns-in_default-open-clause-served
 returns-in_default-open-clause-served g c = record { log = []; legal = tt; each = served_same _ _ _ _ _ _ _ (λ k. prefix_self []) }
 
-
 pub returns-in_default-with_capacity-clause-served : goal.returns-in_default-with_capacity-clause-served
 returns-in_default-with_capacity-clause-served g c = record { log = []; legal = tt; each = served_same _ _ _ _ _ _ _ (λ k. prefix_self []) }

@@ -1,0 +1,4 @@
+pub mod Lines
+pub mod Stage
+pub mod Answered
+pub mod Ends
