@@ -14,7 +14,7 @@ use Rattle.vs_defs.specs.Bytes.{Bytes, same_name}
 use Rattle.vs_args.specs.declared.command.Choice as own
 use Rattle.vs_args.specs.declared.command.Choice.TheVariants as options
 use Rattle.vs_args.specs.declared.command.Command.{Command}
-use Rattle.vs_args.specs.declared.command.Command.TheVariants.{Script, Generate, Serve}
+use Rattle.vs_args.specs.declared.command.Command.TheVariants.{Script, Schedule, Generate, Serve}
 use Rattle.vs_defs.specs.ProgramWords as defs
 use Rattle.vs_args.specs.Words.{job_named, command_named, choices_of, choice_of, seen, is_named, joined_name, value_behind}
 use Rattle.vs_defs.specs.ProgramWords.{Choice, choice_named, choice_within, without_choice, settings_of, value_in, with_setting, job_by}
@@ -193,48 +193,67 @@ no_more c (Some v) = refl
 
 abbrev pub job_with : Command → defs.Settings → defs.Job
 job_with Script s = defs.Script (defs.setting (codes "--seed") 0 s)
+job_with Schedule s = defs.Schedule
 job_with Generate s = defs.Generate (defs.setting (codes "--seed") 0 s) (defs.setting (codes "--members") 20000 s) (defs.setting (codes "--dim") 256 s)
 job_with Serve s =
     defs.Serve (defs.setting (codes "--port") 6379 s) (defs.setting (codes "--workers") 8 s) (defs.setting (codes "--seed") 0 s)
     (defs.setting (codes "--connections") 4294967295 s)
 
-by_command : (w : Bytes) (ws : List Bytes) (c : Command) (a b d : Bool) → same_name w (codes "script") ≡ a → same_name w (codes "generate") ≡ b
-    → same_name w (codes "serve") ≡ d → cond a (Some Script) (cond b (Some Generate) (cond d (Some Serve) None)) ≡ Some c
-    → cond (a || (b || (d || false))) (job_by w ws) None ≡ option_map (job_with c) (settings_of (seen (choices_of c)) ws)
-by_command w ws Script true b d is is_b is_d e = rw is refl
-by_command w ws Generate true b d is is_b is_d e = cc
-by_command w ws Serve true b d is is_b is_d e = cc
-by_command w ws Script false true d is is_b is_d e = cc
-by_command w ws Serve false true d is is_b is_d e = cc
-by_command w ws Generate false true d is is_b is_d e =
+by_command : (w : Bytes) (ws : List Bytes) (c : Command) (a s b d : Bool) → same_name w (codes "script") ≡ a → same_name w (codes "schedule") ≡ s
+    → same_name w (codes "generate") ≡ b → same_name w (codes "serve") ≡ d
+    → cond a (Some Script) (cond s (Some Schedule) (cond b (Some Generate) (cond d (Some Serve) None))) ≡ Some c
+    → cond (a || (s || (b || (d || false)))) (job_by w ws) None ≡ option_map (job_with c) (settings_of (seen (choices_of c)) ws)
+by_command w ws Script true s b d is is_s is_b is_d e = rw is refl
+by_command w ws Schedule true s b d is is_s is_b is_d e = cc
+by_command w ws Generate true s b d is is_s is_b is_d e = cc
+by_command w ws Serve true s b d is is_s is_b is_d e = cc
+by_command w ws Script false true b d is is_s is_b is_d e = cc
+by_command w ws Schedule false true b d is is_s is_b is_d e =
+    let word : w ≡ codes "schedule" = (bytes_eq-Decides w (codes "schedule")).0 is_s in
+    rw word refl
+by_command w ws Generate false true b d is is_s is_b is_d e = cc
+by_command w ws Serve false true b d is is_s is_b is_d e = cc
+by_command w ws Script false false true d is is_s is_b is_d e = cc
+by_command w ws Schedule false false true d is is_s is_b is_d e = cc
+by_command w ws Serve false false true d is is_s is_b is_d e = cc
+by_command w ws Generate false false true d is is_s is_b is_d e =
     let word : w ≡ codes "generate" = (bytes_eq-Decides w (codes "generate")).0 is_b in
     rw word refl
-by_command w ws Script false false true is is_b is_d e = cc
-by_command w ws Generate false false true is is_b is_d e = cc
-by_command w ws Serve false false true is is_b is_d e =
+by_command w ws Script false false false true is is_s is_b is_d e = cc
+by_command w ws Schedule false false false true is is_s is_b is_d e = cc
+by_command w ws Generate false false false true is is_s is_b is_d e = cc
+by_command w ws Serve false false false true is is_s is_b is_d e =
     let word : w ≡ codes "serve" = (bytes_eq-Decides w (codes "serve")).0 is_d in
     rw word refl
-by_command w ws c false false false is is_b is_d e = cc
+by_command w ws c false false false false is is_s is_b is_d e = cc
 
 pub job_by_command : (w : Bytes) (ws : List Bytes) (c : Command) → command_named w ≡ Some c
     → job_named (w ∷ ws) ≡ option_map (job_with c) (settings_of (seen (choices_of c)) ws)
 job_by_command w ws c e =
-    by_command w ws c (same_name w (codes "script")) (same_name w (codes "generate")) (same_name w (codes "serve")) refl refl refl e
+    by_command w ws c (same_name w (codes "script")) (same_name w (codes "schedule")) (same_name w (codes "generate")) (same_name w (codes "serve"))
+    refl refl refl refl e
 
-no_command : (w : Bytes) (ws : List Bytes) (a b d : Bool) → cond a (Some Script) (cond b (Some Generate) (cond d (Some Serve) None)) ≡ None
-    → cond (a || (b || (d || false))) (job_by w ws) None ≡ None
-no_command w ws true b d e = cc
-no_command w ws false true d e = cc
-no_command w ws false false true e = cc
-no_command w ws false false false e = refl
+no_command : (w : Bytes) (ws : List Bytes) (a s b d : Bool)
+    → cond a (Some Script) (cond s (Some Schedule) (cond b (Some Generate) (cond d (Some Serve) None))) ≡ None
+    → cond (a || (s || (b || (d || false)))) (job_by w ws) None ≡ None
+no_command w ws true s b d e = cc
+no_command w ws false true b d e = cc
+no_command w ws false false true d e = cc
+no_command w ws false false false true e = cc
+no_command w ws false false false false e = refl
 
 pub no_job_by : (w : Bytes) (ws : List Bytes) → command_named w ≡ None → job_named (w ∷ ws) ≡ None
-no_job_by w ws e = no_command w ws (same_name w (codes "script")) (same_name w (codes "generate")) (same_name w (codes "serve")) e
+no_job_by w ws e =
+    no_command w ws (same_name w (codes "script")) (same_name w (codes "schedule")) (same_name w (codes "generate")) (same_name w (codes "serve")) e
 
 -- the job of settings that were read
 pub script_of : (s : Settings) (o : Option defs.Settings) → Gives (Some s) o → Some (defs.Script s.seed) ≡ option_map (job_with Script) o
 script_of s None gives = absurd gives
 script_of s (Some list) gives = ap (λ n. Some (defs.Script n)) gives.seed
+
+pub schedule_of : (s : Settings) (o : Option defs.Settings) → Gives (Some s) o → Some defs.Schedule ≡ option_map (job_with Schedule) o
+schedule_of s None gives = absurd gives
+schedule_of s (Some list) gives = refl
 
 pub generate_of : (s : Settings) (o : Option defs.Settings) → Gives (Some s) o → Some (defs.Generate s.seed s.members s.dim) ≡ option_map (job_with Generate) o
 generate_of s None gives = absurd gives

@@ -19,7 +19,7 @@ use Rattle.clap.proofs.OnLiterals.{clap_on_literals}
 use Rattle.vs_defs.specs.Bytes.{Bytes, same_name}
 use Rattle.vs_defs.specs.Numeral.{is_empty}
 use Rattle.vs_defs.specs.ProgramWords.{Settings, generate_choices, serve_choices, seed, is_plain_number, settings_of, setting, with_setting, value_in, job_by, choice_within, choice_named}
-use Rattle.vs_defs.specs.ProgramWords.Job.{Script, Generate, Serve}
+use Rattle.vs_defs.specs.ProgramWords.Job.{Script, Schedule, Generate, Serve}
 use Rattle.vs_defs.specs.Decimal.{number_of}
 use Rattle.vs_decimal.proofs.DigitLists.{digit_range}
 use Rattle.vs_laws.proofs.Options.{is_some_of_map}
@@ -260,22 +260,30 @@ no_script : (s : Option Settings) (seed : ℕ) → option_map (λ s. Generate (s
 no_script None seed e = cc
 no_script (Some s) seed e = cc
 
+no_script_in_schedule : (s : Option Settings) (seed : ℕ) → option_map (λ s. Schedule) s ≡ Some (Script seed) → ⊥
+no_script_in_schedule None seed e = cc
+no_script_in_schedule (Some s) seed e = cc
+
 no_script_in_serve : (s : Option Settings) (seed : ℕ)
     → option_map (λ s. Serve (setting (codes "--port") 6379 s) (setting (codes "--workers") 8 s) (setting (codes "--seed") 0 s) (setting (codes "--connections") 4294967295 s)) s
     ≡ Some (Script seed) → ⊥
 no_script_in_serve None seed e = cc
 no_script_in_serve (Some s) seed e = cc
 
-script_law : (w : Bytes) (ws : List Bytes) (seed : ℕ) (b g d : Bool) → same_name w (codes "script") ≡ b → same_name w (codes "generate") ≡ g
-    → same_name w (codes "serve") ≡ d → cond (b || (g || (d || false))) (job_by w ws) None ≡ Some (Script seed) → Seeded (w ∷ ws)
-script_law w ws n false false false is is_g is_d e = cc
-script_law w ws n false false true is is_g is_d e =
+script_law : (w : Bytes) (ws : List Bytes) (seed : ℕ) (b s g d : Bool) → same_name w (codes "script") ≡ b → same_name w (codes "schedule") ≡ s
+    → same_name w (codes "generate") ≡ g → same_name w (codes "serve") ≡ d → cond (b || (s || (g || (d || false)))) (job_by w ws) None ≡ Some (Script seed)
+    → Seeded (w ∷ ws)
+script_law w ws n false false false false is is_s is_g is_d e = cc
+script_law w ws n false false false true is is_s is_g is_d e =
     let word : w ≡ codes "serve" = (bytes_eq-Decides w (codes "serve")).0 is_d in
     absurd (no_script_in_serve (settings_of serve_choices ws) n (subst (λ x. job_by x ws ≡ Some (Script n)) word e))
-script_law w ws n false true d is is_g is_d e =
+script_law w ws n false false true d is is_s is_g is_d e =
     let word : w ≡ codes "generate" = (bytes_eq-Decides w (codes "generate")).0 is_g in
     absurd (no_script (settings_of generate_choices ws) n (subst (λ x. job_by x ws ≡ Some (Script n)) word e))
-script_law w ws n true g d is is_g is_d e =
+script_law w ws n false true g d is is_s is_g is_d e =
+    let word : w ≡ codes "schedule" = (bytes_eq-Decides w (codes "schedule")).0 is_s in
+    absurd (no_script_in_schedule (settings_of [] ws) n (subst (λ x. job_by x ws ≡ Some (Script n)) word e))
+script_law w ws n true s g d is is_s is_g is_d e =
     let word : w ≡ codes "script" = (bytes_eq-Decides w (codes "script")).0 is in
     let job : job_by (codes "script") ws ≡ Some (Script n) = subst (λ x. job_by x ws ≡ Some (Script n)) word e in
     subst (λ x. Seeded (x ∷ ws)) (sym word) (settings_law ws (sym (is_some_of_map (λ s. Script (setting (codes "--seed") 0 s)) (settings_of (seed ∷ []) ws)) ∙ ap is_some job))
@@ -284,7 +292,8 @@ script_law w ws n true g d is is_g is_d e =
 pub seed_law : (words : List Bytes) → IsScript words → Seeded words
 seed_law [] e = cc (e.1)
 seed_law (w ∷ ws) e =
-    script_law w ws e.0 (same_name w (codes "script")) (same_name w (codes "generate")) (same_name w (codes "serve")) refl refl refl e.1
+    script_law w ws e.0 (same_name w (codes "script")) (same_name w (codes "schedule")) (same_name w (codes "generate")) (same_name w (codes "serve"))
+    refl refl refl refl e.1
 
 pub words_utf8 : (words : List Bytes) → IsScript words → All IsUtf8 words
 words_utf8 words e = (seed_law words e).1.utf8

@@ -7,12 +7,12 @@ use Rattle.std.specs.Prelude.{◌≡◌, ℕ, Bool, List, [], ◌∷◌, ◌++�
 use Rattle.vs_defs.specs.Bytes.{Bytes, same_name}
 use Rattle.vs_defs.specs.ProgramWords as defs
 use Rattle.vs_args.specs.declared.command.Command.{Command}
-use Rattle.vs_args.specs.declared.command.Command.TheVariants.{Script, Generate, Serve}
+use Rattle.vs_args.specs.declared.command.Command.TheVariants.{Script, Schedule, Generate, Serve}
 use Rattle.vs_args.specs.declared.command.Choice.{Choice}
 use Rattle.vs_args.specs.declared.command.Choice.TheVariants.{Seed, Members, Dim, Port, Workers, Connections}
 
 abbrev pub built : List Bytes
-built = codes "script" ∷ codes "generate" ∷ codes "serve" ∷ []
+built = codes "script" ∷ codes "schedule" ∷ codes "generate" ∷ codes "serve" ∷ []
 
 abbrev pub job_named : List Bytes → Option defs.Job
 job_named words = defs.job_among built words
@@ -35,11 +35,12 @@ choice_of Connections = record { name = codes "--connections"; least = 1; most =
 
 abbrev pub command_named : Bytes → Option Command
 command_named word =
-    cond (same_name word (codes "script")) (Some Script)
-    (cond (same_name word (codes "generate")) (Some Generate) (cond (same_name word (codes "serve")) (Some Serve) None))
+    cond (same_name word (codes "script")) (Some Script) (cond (same_name word (codes "schedule")) (Some Schedule)
+    (cond (same_name word (codes "generate")) (Some Generate) (cond (same_name word (codes "serve")) (Some Serve) None)))
 
 abbrev pub choices_of : Command → List Choice
 choices_of Script = Seed ∷ []
+choices_of Schedule = []
 choices_of Generate = Seed ∷ Members ∷ Dim ∷ []
 choices_of Serve = Port ∷ Workers ∷ Seed ∷ Connections ∷ []
 

@@ -12,6 +12,7 @@ use arrayvec::ArrayVec;
 #[derive(Clone, Copy, Debug, PartialEq, Eq)]
 pub enum Command {
     Script,
+    Schedule,
     Generate,
     Serve,
 }
@@ -37,6 +38,8 @@ pub fn command_named(word: &[u8]) -> Option<Command>
 {
     if word == b"script".as_slice() {
         Some(Command::Script)
+    } else if word == b"schedule".as_slice() {
+        Some(Command::Schedule)
     } else if word == b"generate".as_slice() {
         Some(Command::Generate)
     } else if word == b"serve".as_slice() {
@@ -54,6 +57,7 @@ impl Command {
         let mut choices = ArrayVec::new();
         match self {
             Command::Script => choices.push(Choice::Seed),
+            Command::Schedule => {}
             Command::Generate => {
                 choices.push(Choice::Seed);
                 choices.push(Choice::Members);

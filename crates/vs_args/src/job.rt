@@ -20,6 +20,8 @@ pub enum Job {
     Script {
         seed: u64,
     },
+    /// Run the schedule that is standard input.
+    Schedule,
     /// Build a set of so many generated members, of so many components, and print its summary.
     Generate {
         seed: u64,
@@ -90,6 +92,6 @@ pub fn read_words(alloc: Global, words: &[Text]) -> Result<Job, WordsError>
         Job::Script { .. } => Ok(Job::Script {
             seed: read_seed(alloc, words)?,
         }),
-        Job::Generate { .. } | Job::Serve { .. } => Ok(job),
+        Job::Schedule | Job::Generate { .. } | Job::Serve { .. } => Ok(job),
     }
 }

@@ -68,6 +68,7 @@ pub fn plain_job(words: &[Text]) -> Option<Job>
     } = read_settings(command.choices(), rest)?;
     Some(match command {
         Command::Script => Job::Script { seed },
+        Command::Schedule => Job::Schedule,
         Command::Generate => Job::Generate { seed, members, dim },
         Command::Serve => Job::Serve {
             port,

@@ -33,6 +33,14 @@ fn seeds(rt: HostRuntime) -> Result<(), Fail> {
 }
 
 #[test]
+fn schedules(rt: HostRuntime) -> Result<(), Fail> {
+    let texts = texts(rt.alloc(), &["schedule"])?;
+    let job = read_words(rt.alloc(), texts.as_slice());
+    assert_eq!(rt; job, Ok(Job::Schedule));
+    Ok(())
+}
+
+#[test]
 fn generated_sets(rt: HostRuntime) -> Result<(), Fail> {
     let cases: [(&[&str], u64, u32, u32); 9] = [
         (&["generate"], 0, 20_000, 256),
@@ -112,11 +120,17 @@ fn servers(rt: HostRuntime) -> Result<(), Fail> {
 
 #[test]
 fn bad_words(rt: HostRuntime) -> Result<(), Fail> {
-    let cases: [&[&str]; 57] = [
+    let cases: [&[&str]; 63] = [
         &[],
         &[""],
-        &["schedule"],
         &["Script"],
+        &["Schedule"],
+        &["schedules"],
+        &["schedule", ""],
+        &["schedule", "x"],
+        &["schedule", "schedule"],
+        &["schedule", "--seed", "1"],
+        &["schedule", "--seed=1"],
         &["script", ""],
         &["script", "script"],
         &["script", "--"],

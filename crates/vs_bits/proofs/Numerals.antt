@@ -1,13 +1,14 @@
 -- Texts that are numerals, up to a place; and words that are filled with their bits.
-use Rattle.std.proofs.Common.{◌≡◌, ℕ, zero, suc, ◌+◌, ◌-◌, ◌*◌, ◌%◌, ◌^◌, ◌<◌, ◌≤◌, Bool, true, false, cond, List, [], ◌∷◌, ◌++◌, map, length, take, drop, get_or, refl, sym, ap, ◌∙◌, arith, min, subst, inl, inr, Option, Some, None, option_map}
+use Rattle.std.proofs.Common.{◌≡◌, ℕ, zero, suc, ◌+◌, ◌-◌, ◌*◌, ◌%◌, ◌^◌, ◌<◌, ◌≤◌, Bool, true, false, cond, List, [], ◌∷◌, ◌++◌, map, ◌==◌, ◌&&◌, length, take, drop, get_or, refl, sym, ap, ap₂, ◌∙◌, arith, min, subst, inl, inr, Option, Some, None, option_map}
 use Rattle.std.specs.List.{prefix_len}
 use Rattle.std.specs.Prelude.{option_and_then, bit_or}
 use mir.Val.{bool_byte}
 use Rattle.std.proofs.lemmas.Bool.{cases_lt}
-use Rattle.std.proofs.lemmas.List.{length-map, take-map, drop-map, get_or-map, take-append-drop}
+use Rattle.std.proofs.lemmas.List.{length-map, take-map, drop-map, get_or-map, take-append-drop, take_more}
+use Rattle.std.proofs.lemmas.List.Folds.{list_all-append}
 use Rattle.std.proofs.lemmas.List.Sums.{prefix_len_passes, prefix_len_stops}
 use Rattle.vs_defs.specs.Bytes.{Bytes}
-use Rattle.vs_defs.specs.Numeral.{Sign, sign_of, bit_of, bits_of, is_numeral}
+use Rattle.vs_defs.specs.Numeral.{Sign, sign_of, bit_of, bits_of, is_numeral, are_zeros}
 use Rattle.vs_defs.specs.Words.{words_for, bits_of_words}
 use Rattle.vs_bits.specs.Components.{bit_when, plus_in}
 use Rattle.vs_bits.specs.Packed.{IsWordOf, AreWordsOf}
@@ -126,3 +127,14 @@ text_is_numeral texts k text sign at e = ap is_numeral (sym at) ∙ numeral_has_
 
 pub text_is_none : (texts : List Bytes) (k : ℕ) (text : Bytes) → text ≡ get_or texts k text → None ≡ sign_of text → is_numeral (get_or texts k text) ≡ false
 text_is_none texts k text at e = ap is_numeral (sym at) ∙ no_numeral text (sym e)
+
+-- ---- digits, of which each is 0
+
+and_true : (b : Bool) → (b && true) ≡ b
+and_true true = refl
+and_true false = refl
+
+pub zeros_more : (text : Bytes) (k : ℕ) (zeros : Bool) → k < length text → zeros ≡ are_zeros (take k text) → are_zeros (take (k + 1) text) ≡ (zeros && (get_or text k 0 == 48))
+zeros_more text k zeros less is =
+    ap are_zeros (take_more text k 0 less) ∙ list_all-append (λ c. c == 48) (take k text) (get_or text k 0 ∷ [])
+    ∙ ap₂ (λ (a b : Bool). a && b) (sym is) (and_true (get_or text k 0 == 48))

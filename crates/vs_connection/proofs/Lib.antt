@@ -3,3 +3,4 @@ pub mod Sessions
 pub mod Ends
 pub mod Faults
 pub mod Pings
+pub mod Complete

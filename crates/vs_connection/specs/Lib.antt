@@ -3,4 +3,5 @@ pub mod Stage
 pub mod Written
 pub mod Served
 pub mod Connection
+pub mod Complete
 pub mod SoFar

@@ -33,6 +33,7 @@ module _ (limits : Limits) (n known : ℕ) (seat desk : HistoryView) (store : St
       at_rest = rests ∙ ap (λ (k : ℕ). pass k left.seen false [] left.own) number_is ∙ ap (λ (l : GraphHistory). pass n left.seen false [] l) (sym c.own_are);
       counts = after ∙ c.counts;
       legal = c.legal;
+      good = c.good d.good;
     }
 
     pub desk_kept : (new : Store Set) (made : ℕ) (left back : HistoryView) → back ≡ keeper made left.seen true → Closed limits n desk.seen w left.seen left.own → w.new ≡ new → IsDesk limits new back

@@ -18,11 +18,13 @@ pub record Knower : Type 0 where
   pub seen : GraphHistory
   pub stream : Lcg
 
--- the seat's view is that of a pass at rest, which has seen its own entries; the count is the length of its history, which is legal
+-- the seat's view is that of a pass at rest, which has seen its own entries; the count is the length of its history, which is
+-- legal and has good stores alone
 pub record IsPass (limits : Limits) (number known : ℕ) (view : HistoryView) : Type 0 where
   pub at_rest : view ≡ pass number view.seen false [] (own number view.seen)
   pub counts : known ≡ length view.seen
   pub legal : GraphLegal limits view.seen
+  pub good : IsGoodThroughout view.seen
 
 -- the keeper leads; its history is legal, has good stores alone, and ends in this store, which counts its changes
 pub record IsDesk (limits : Limits) (store : Store Set) (view : HistoryView) : Type 0 where

@@ -2,7 +2,7 @@
 ghost use Rattle.std.specs.Prelude.{◌≡◌, [], false, length, IsOk, IfOk, OnErr};
 ghost use Rattle.vs_defs.specs.History.{own};
 ghost use Rattle.vs_session_defs.specs.Words.{generator as generator_of, drawn, after_draws};
-ghost use Rattle.vs_thread_defs.specs.Machine.{GraphLegal};
+ghost use Rattle.vs_thread_defs.specs.Machine.{GraphLegal, IsGoodThroughout};
 ghost use Rattle.vs_thread_defs.specs.Rule.{pass as pass_view};
 ghost use Rattle.vs_pass.specs.Knower.{Meets};
 
@@ -58,6 +58,7 @@ impl<N: TableName> Pass<N> {
     pub fn known(&self) -> u64
         ensures known { result ≡ length self.now.seen }
         ensures legal { GraphLegal N.limits self.now.seen }
+        ensures good { IsGoodThroughout self.now.seen }
     {
         self.known
     }

@@ -4,6 +4,7 @@ use Rattle.vs_defs.specs.ProgramWords.{Job}
 use Rattle.vs_defs.specs.ProgramWords.Job.{Script, Schedule, Generate, Serve}
 use Rattle.vs_thread_defs.specs.Machine.{GraphHistory}
 use Rattle.vs_connection.specs.Point.{Point}
+use Rattle.std.proofs.lemmas.List.Elements.{All-nil}
 use Rattle.vs_history.proofs.Beginnings.{prefix_self}
 use Rattle.vs_server.proofs.Sums.{served_same}
 use Rattle.vs_server.specs.declared.serve.ServeEnd.TheVariants as ends
@@ -20,5 +21,5 @@ serves_nothing P given closed faults listeners (Some (Serve port workers seed co
   end = ends.NoMemory;
   status_is = refl;
   answer = refl;
-  served = record { log = []; legal = tt; each = served_same _ _ _ _ _ _ _ (λ k. prefix_self []) };
+  served = record { log = []; legal = tt; good = All-nil _; each = served_same _ _ _ _ _ _ _ (λ k. prefix_self []) };
 }

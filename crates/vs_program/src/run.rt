@@ -1,14 +1,18 @@
 //! The jobs of one thread.
-ghost use Rattle.std.specs.Prelude.{◌≡◌, ◌≢◌, ◌<◌, ◌⊎◌, ◌↔◌};
+ghost use Rattle.std.specs.Prelude.{◌≡◌, ◌≢◌, ◌<◌, ◌⊎◌, ◌↔◌, ℕ, List, Some};
+ghost use Rattle.vs_defs.specs.ProgramWords as defs;
+ghost use Rattle.vs_defs.specs.Stream.{Message};
 ghost use Rattle.vs_outside.specs.Known.{Adds};
 ghost use Rattle.vs_args.specs.Words.{job_named};
-ghost use Rattle.vs_program.specs.Jobs.{Does, Refuses, bad_words};
+ghost use Rattle.vs_connection.specs.Complete.{HasWhole};
+ghost use Rattle.vs_program.specs.Jobs.{Does, Refuses, IsDoneHere, CompletesScript, bad_words};
 
-use crate::status::{Status, status_at};
+use crate::status::{Status, status_at, status_scheduled};
 use std::alloc::Global;
 use vs_args::{Job, WordsError, read_words};
 use vs_connection::write_all;
 use vs_outside::{Sink, Source, Text};
+use vs_schedule::run_schedule;
 use vs_session::serve_alone;
 
 /// What is written where the words name no job.
@@ -36,10 +40,14 @@ pub fn run_alone<S: Source, K: Sink>(
     ensures bad_words { result ≡ Status.BadWords → (K.faults sink.old < K.faults sink.new) ⊎ Adds (K.written sink.old) bad_words (K.written sink.new) }
     ensures read_fault { (result ≡ Status.ReadFault) ↔ (S.faults source.old < S.faults source.new) }
     ensures write_fault { result ≢ Status.BadWords → ((result ≡ Status.WriteFault) ↔ (K.faults sink.old < K.faults sink.new)) }
+    ensures plain { IsDoneHere (job_named words.now) → result ≢ Status.BadWords }
+    ensures complete { (seed : ℕ) (messages : List Message) → job_named words.now ≡ Some (defs.Script seed) → HasWhole (S.left source.old) messages → S.faults source.new ≡ S.faults source.old → K.faults sink.new ≡ K.faults sink.old
+        → CompletesScript seed result messages (S.left source.new) (K.written sink.old) (K.written sink.new) }
 {
     match read_words(alloc, words) {
         Ok(job) => match job {
             Job::Script { seed } => status_at(serve_alone(alloc, seed, source, sink)),
+            Job::Schedule => status_scheduled(run_schedule(alloc, source, sink)),
             // The summary of generated members isn't built yet, and `run_server` serves.
             Job::Generate { .. } | Job::Serve { .. } => refuse(sink),
         },

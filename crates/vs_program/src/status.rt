@@ -1,19 +1,21 @@
 //! How the program ends.
 ghost use Rattle.std.specs.Prelude.{◌≡◌};
-ghost use Rattle.vs_program.specs.Status.{status_of, served_of, exit_code};
+ghost use Rattle.vs_program.specs.Status.{status_of, served_of, scheduled_of, exit_code};
 
 use vs_connection::SessionEnd;
+use vs_schedule::ScheduleEnd;
 use vs_server::ServeEnd;
 
 /// How the program ends.
 ///
-/// - `Done`: the input ended after a whole message, or QUIT was answered; or a server served as many connections as it was to.
+/// - `Done`: the input ended after a whole message, or QUIT was answered; or a schedule was answered whole; or a server served as many connections as it was to.
 /// - `BadWords`: the words name no job.
 /// - `Protocol`: the input has a fault.
 /// - `CutShort`: the input ended within a message.
 /// - `ReadFault`, `WriteFault`: the source, the sink failed.
-/// - `NoMemory`: before the first read or accept, or while a message was read.
+/// - `NoMemory`: before the first read or accept, or while a message or a line was read.
 /// - `Spent`: 2^62 bytes or more were taken.
+/// - `BadLine`: a line of a schedule is a bad one.
 /// - `AcceptFault`: a listener failed.
 /// - `BindFault`: the port can't be had.
 #[derive(Clone, Copy, Debug, PartialEq, Eq)]
@@ -26,6 +28,7 @@ pub enum Status {
     WriteFault,
     NoMemory,
     Spent,
+    BadLine,
     AcceptFault,
     BindFault,
 }
@@ -44,6 +47,7 @@ impl Status {
             Status::WriteFault => 6,
             Status::NoMemory => 7,
             Status::Spent => 8,
+            Status::BadLine => 9,
             Status::AcceptFault => 10,
             Status::BindFault => 16,
         }
@@ -73,5 +77,19 @@ pub fn status_served(end: ServeEnd) -> Status
         ServeEnd::Done => Status::Done,
         ServeEnd::AcceptFault => Status::AcceptFault,
         ServeEnd::NoMemory => Status::NoMemory,
+    }
+}
+
+/// The status of a schedule's end.
+pub fn status_scheduled(end: ScheduleEnd) -> Status
+    ensures { result ≡ scheduled_of end }
+{
+    match end {
+        ScheduleEnd::Ended => Status::Done,
+        ScheduleEnd::BadLine { .. } => Status::BadLine,
+        ScheduleEnd::ReadFault => Status::ReadFault,
+        ScheduleEnd::WriteFault => Status::WriteFault,
+        ScheduleEnd::Spent => Status::Spent,
+        ScheduleEnd::NoMemory => Status::NoMemory,
     }
 }

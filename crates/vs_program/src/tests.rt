@@ -17,6 +17,8 @@ struct Case {
 
 const SCRIPT: &[&[u8]] = &[b"script", b"--seed=3"];
 
+const SCHEDULE: &[&[u8]] = &[b"schedule"];
+
 fn text(alloc: Global, bytes: &[u8]) -> Result<Text, AllocError> {
     Ok(Text::from_vec(Vec::from_slice(alloc, bytes)?))
 }
@@ -71,6 +73,24 @@ fn ends(rt: HostRuntime) -> Result<(), Fail> {
             input: b"*1\r\n$3\r\nabcX",
             output: b"-ERR Protocol error: bad bulk end at byte 11\r\n",
             status: Status::Protocol,
+        },
+        Case {
+            words: SCHEDULE,
+            input: b"actors 1\n1 do - PING",
+            output: b"1 do +PONG\n",
+            status: Status::Done,
+        },
+        Case {
+            words: SCHEDULE,
+            input: b"actors 1\n\n1 do - PING\nPING\n1 do - PING\n",
+            output: b"1 do +PONG\nbad line 4\n",
+            status: Status::BadLine,
+        },
+        Case {
+            words: &[b"schedule", b"x"],
+            input: b"actors 1\n",
+            output: b"vectord: bad words\n",
+            status: Status::BadWords,
         },
         Case {
             words: &[b"script", b"--seed", b"03"],

@@ -55,6 +55,10 @@ module _ (search : Search) (text : Option Bytes) (x : Set) (q : Vector) (hits : 
   pub are_hits : HasHits search text x q hits reads → (found : List Member) × AreHits q x.contents.members found hits
   are_hits has = either search.truth (λ are. (nearest search.count q text x.contents.members, are)) found_members has
 
+  pub has_nearest : search.truth ≡ true → AreHits q x.contents.members (nearest search.count q text x.contents.members) hits → HasHits search text x q hits reads
+  has_nearest e are =
+      subst (λ b. MatchBool b (AreHits q x.contents.members (nearest search.count q text x.contents.members) hits) (FindsNear x q search.count search.ef search.effort (passes_filter text) hits reads)) (sym e) are
+
 same_test : (text : Option Bytes) (o : Option Member) → passes_of (passes_filter text) o ≡ passes_member text o
 same_test text None = refl
 same_test text (Some y) = refl

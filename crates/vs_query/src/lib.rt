@@ -11,9 +11,11 @@ mod search;
 #[cfg(test)]
 mod tests;
 mod vector;
+mod wide;
 
 pub use facts::info;
 pub use layers::links;
 pub use member::{attribute, embedding};
 pub use picking::random;
 pub use search::find;
+pub use wide::find_wide;

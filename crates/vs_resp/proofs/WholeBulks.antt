@@ -80,6 +80,20 @@ leads_line l sum ws k n ds some digits = (
       (len_end l sum ws n, ends_length l sum ws k n some, (body l (sum + n) ws n [], refl, refl)),
 )
 
+pub is_digit : (d : ℕ) → 48 ≤ d → d ≤ 57 → is_ascii_digit d ≡ true
+is_digit d low high = grind (arith, common_steps)
+
+-- a line of one digit
+pub lone_leads : (text : Bytes) (d l sum : ℕ) (ws : List Bytes) → take 4 text ≡ 36 ∷ d ∷ 13 ∷ 10 ∷ [] → is_ascii_digit d ≡ true → d ≤ 57 → sum + (d - 48) ≤ max_message_bytes →
+    Leads (bulk l sum ws) (take 4 text) (body l (sum + (d - 48)) ws (d - 48) [])
+lone_leads text d l sum ws is digit high few =
+    let value : digit_onto 0 d ≡ d - 48 = omega arith in
+    let less : digit_onto 0 d ≤ max_word_bytes = omega (arith, high) in
+    let all : sum + digit_onto 0 d ≤ max_message_bytes = omega (arith, few) in
+    subst (λ (n : ℕ). Leads (bulk l sum ws) (take 4 text) (body l (sum + n) ws n [])) value
+    (subst (λ (xs : Bytes). Leads (bulk l sum ws) xs (body l (sum + digit_onto 0 d) ws (digit_onto 0 d) [])) (sym is)
+    (leads_line l sum ws 1 (digit_onto 0 d) (d ∷ []) (omega arith) (leads_digit l sum ws 0 0 d [] digit (omega arith) less all refl)))
+
 line_text : (text : Bytes) (k : ℕ) → 0 < length text → get_or text 0 0 ≡ 36 → take 2 (drop k (drop 1 text)) ≡ 13 ∷ 10 ∷ [] → take (k + 3) text ≡ 36 ∷ (take k (drop 1 text) ++ 13 ∷ 10 ∷ [])
 line_text [] k some dollar ended = absurd (omega arith)
 line_text (c ∷ cs) k some dollar ended =
@@ -116,13 +130,12 @@ is_bulk text line word is so l sum ws few = (
 )
 
 -- a line of s bytes, and v bytes of the word
-pub bulk_at_front : (p : Bytes) (s v : ℕ) → s + v ≤ length p → take 2 (drop (s + v) p) ≡ 13 ∷ 10 ∷ [] →
-    ((l sum : ℕ) (ws : List Bytes) → sum + v ≤ max_message_bytes → Leads (bulk l sum ws) (take s p) (body l (sum + v) ws v [])) → IsBulk (take (s + v + 2) p) (take (s + v - s) (drop s p))
-bulk_at_front p s v within ended so =
-    let same : s + v - s ≡ v = omega arith in
+pub bulk_at_front : (p rest : Bytes) (s v : ℕ) → rest ≡ drop s p → s + v ≤ length p → take 2 (drop (s + v) p) ≡ 13 ∷ 10 ∷ [] →
+    ((l sum : ℕ) (ws : List Bytes) → sum + v ≤ max_message_bytes → Leads (bulk l sum ws) (take s p) (body l (sum + v) ws v [])) → IsBulk (take (s + v + 2) p) (take v rest)
+bulk_at_front p rest s v is within ended so =
     let count : length (take v (drop s p)) ≡ v = omega (arith, length-take v (drop s p), length-drop s p) in
     let text : take (s + v + 2) p ≡ (take s p ++ take v (drop s p)) ++ 13 ∷ 10 ∷ [] =
     take-add (s + v) 2 p ∙ ap₂ (λ (a b : Bytes). a ++ b) (take-add s v p) ended in
-    subst (λ (i : ℕ). IsBulk (take (s + v + 2) p) (take i (drop s p))) (sym same)
+    subst (λ (r : Bytes). IsBulk (take (s + v + 2) p) (take v r)) (sym is)
     (is_bulk (take (s + v + 2) p) (take s p) (take v (drop s p)) text
     (subst (λ (i : ℕ). (l sum : ℕ) (ws : List Bytes) → sum + i ≤ max_message_bytes → Leads (bulk l sum ws) (take s p) (body l (sum + i) ws i [])) (sym count) so))

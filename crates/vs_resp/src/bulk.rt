@@ -80,8 +80,9 @@ impl Decoder {
         n
     }
 
-    // Takes a whole bulk with this word.
-    pub(crate) fn take_bulk(&mut self, word: &[u8])
+    // Takes a whole bulk with this word, with which the bytes `from` begin.
+    pub(crate) fn take_bulk(&mut self, word: &[u8], from: &[u8])
+        requires from { word.now ≡ take (length word.now) from.now }
         requires length { length word.now ≤ max_word_bytes }
         requires sum { self.old.sum + length word.now ≤ max_message_bytes }
         ensures state { NotLost self.new → reader_of self.new
@@ -90,7 +91,7 @@ impl Decoder {
         ensures fed { self.new.fed ≡ self.old.fed }
     {
         self.value = 0;
-        match self.spare.copy(word) {
+        match self.spare.copy(word, from) {
             Ok(copy) => {
                 self.sum += word.len() as u32;
                 self.end_bulk(copy);

@@ -1,6 +1,6 @@
 //! The memory of answered words, which later words take, so that most of them ask the allocator for none. What is kept stays within
 //! bounds: a long word's memory is dropped, and so is what goes beyond the bounds of all.
-ghost use Rattle.std.specs.Prelude.{◌≡◌, ◌≤◌, [], IfOk, All, map, vec_len, vec_capacity};
+ghost use Rattle.std.specs.Prelude.{◌≡◌, ◌≤◌, [], length, take, IfOk, All, map, vec_len, vec_capacity};
 ghost use Rattle.std.specs.List.{sum};
 
 use std::alloc::{AllocError, Global};
@@ -15,7 +15,8 @@ const WORD_BYTES: usize = 64;
 /// The most bytes of memory of all words that are kept.
 const ALL_BYTES: usize = 65_536;
 
-/// The least memory of a word, so that a somewhat longer one finds room in it.
+/// The least memory of a word, so that a somewhat longer one finds room in it. As many bytes are copied at once for a shorter word, which
+/// takes one step where a copy of just its own takes several.
 const LEAST_BYTES: usize = 16;
 
 /// The memory of words that are no longer needed.
@@ -44,30 +45,39 @@ impl Spare {
     }
 
     /// A word without bytes, with room for so many.
+    #[inline]
     pub fn word(&mut self, len: usize) -> Result<Vec<u8>, AllocError>
         ensures { IfOk result (λ word. word.items ≡ []) }
     {
         if len > WORD_BYTES {
             return Vec::with_capacity(self.alloc, len);
         }
+        let room = len.max(LEAST_BYTES);
         match self.words.pop() {
-            None => Vec::with_capacity(self.alloc, len.max(LEAST_BYTES)),
+            None => Vec::with_capacity(self.alloc, room),
             Some(mut word) => {
                 self.bytes -= word.capacity();
                 word.clear();
-                word.reserve_exact(len)?;
+                word.reserve_exact(room)?;
                 Ok(word)
             }
         }
     }
 
-    /// A word of these bytes.
-    pub fn copy(&mut self, bytes: &[u8]) -> Result<Vec<u8>, AllocError>
-        ensures { IfOk result (λ word. word.items ≡ bytes.now) }
+    /// A copy of this word, with which the bytes `from` begin.
+    #[inline]
+    pub fn copy(&mut self, word: &[u8], from: &[u8]) -> Result<Vec<u8>, AllocError>
+        requires { word.now ≡ take (length word.now) from.now }
+        ensures { IfOk result (λ copy. copy.items ≡ word.now) }
     {
-        let mut word = self.word(bytes.len())?;
-        word.extend_from_slice(bytes)?;
-        Ok(word)
+        let mut copy = self.word(word.len())?;
+        if word.len() <= LEAST_BYTES && LEAST_BYTES <= from.len() {
+            copy.extend_from_slice(&from[..LEAST_BYTES])?;
+            copy.truncate(word.len());
+            return Ok(copy);
+        }
+        copy.extend_from_slice(word)?;
+        Ok(copy)
     }
 
     /// Makes room to keep the words of a message that is handed out. Where there is no memory for it, they are not kept.

@@ -130,6 +130,7 @@ impl Decoder {
         ensures within { IfSome result (λ b. b.size ≤ length rest.now) }
         ensures some { IfSome result (λ b. 0 < b.size) }
         ensures length { IfSome result (λ b. length b.word.now ≤ max_word_bytes) }
+        ensures from { IfSome result (λ b. b.word.now ≡ take (length b.word.now) b.from.now) }
         ensures sum { IfSome result (λ b. self.now.sum + length b.word.now ≤ max_message_bytes) }
     {
         if self.stage != Stage::Bulk {
@@ -153,7 +154,7 @@ impl Decoder {
         ensures fed { self.new.fed ≡ self.old.fed + result }
     {
         if let Some(bulk) = self.bulk_in(rest) {
-            self.take_bulk(bulk.word);
+            self.take_bulk(bulk.word, bulk.from);
             self.fed += bulk.size as u64;
             return bulk.size;
         }

@@ -85,7 +85,7 @@ fn outcome(alloc: Global, stream: &[u8], size: usize, back: bool) -> Result<Stri
 
 #[test]
 fn short_streams(rt: HostRuntime) -> Result<(), Fail> {
-    let cases: [(&[u8], &str); 44] = [
+    let cases: [(&[u8], &str); 46] = [
         (b"", "border"),
         (b"*2\r\n$4\r\nVADD\r\n$3\r\na b\r\n", "<VADD><a b> border"),
         (b"*1\r\n$0\r\n\r\n*1\r\n$2\r\n\r\n\r\n", "<> <\r\n> border"),
@@ -139,6 +139,14 @@ fn short_streams(rt: HostRuntime) -> Result<(), Fail> {
             "<ab> BadEnd at 29",
         ),
         (b"*1\r\n$1\r\na\r\n*1\r\n$1\r\nbc\r\n", "<a> BadEnd at 20"),
+        (
+            b"*4\r\n$2\r\n-1\r\n$1\r\n1\r\n$9\r\n123456789\r\n$3\r\nkey\r\n*3\r\n$16\r\n0123456789abcdef\r\n$1\r\nx\r\n$18\r\n0123456789abcdefgh\r\n*2\r\n$6\r\n0.5000\r\n$2\r\ny\n\r\n",
+            "<-1><1><123456789><key> <0123456789abcdef><x><0123456789abcdefgh> <0.5000><y\n> border",
+        ),
+        (
+            b"*2\r\n$1\r\n1\r\n$1\r\n12345678901234567890\r\n",
+            "BadEnd at 16",
+        ),
     ];
     let alloc = rt.alloc();
     for (stream, wanted) in cases {
@@ -228,6 +236,30 @@ fn limits(rt: HostRuntime) -> Result<(), Fail> {
         for size in [1, 16384] {
             let shown = outcome(alloc, &stream, size, true)?;
             assert_eq!(rt; shown.as_str(), wanted);
+        }
+    }
+    Ok(())
+}
+
+// The stream's outcome, or what came of it until memory was refused: the messages before, and that error.
+fn is_outcome(shown: &str, wanted: &str) -> bool {
+    match shown.strip_suffix("no memory") {
+        Some(messages) => wanted.starts_with(messages),
+        None => shown == wanted,
+    }
+}
+
+/// Words are reused, longer after shorter, and one is given back that is too long to be kept. With no allocation refused this is the
+/// test of the words; `tools/refused/run` runs it with each allocation refused in turn.
+#[test]
+fn refused_memory_cuts_the_stream_short(rt: HostRuntime) -> Result<(), Fail> {
+    let stream =
+        b"*3\r\n$4\r\nVADD\r\n$1\r\ns\r\n$1\r\n1\r\n*4\r\n$8\r\nVSETATTR\r\n$1\r\ns\r\n$6\r\nmember\r\n$14\r\n{\"year\":_1979}\r\n*4\r\n$8\r\nVSETATTR\r\n$1\r\ns\r\n$6\r\nmember\r\n$70\r\nxxxxxxxxxxxxxxxxxxxxxxxxxxxxxxxxxxxxxxxxxxxxxxxxxxxxxxxxxxxxxxxxxxxxxx\r\n*6\r\n$4\r\nVSIM\r\n$1\r\ns\r\n$4\r\n0.25\r\n$6\r\n-0.125\r\n$1\r\n1\r\n$2\r\n-1\r\n*1\r\n$4\r\nPING\r\n";
+    let wanted =
+        "<VADD><s><1> <VSETATTR><s><member><{\"year\":_1979}> <VSETATTR><s><member><70 bytes> <VSIM><s><0.25><-0.125><1><-1> <PING> border";
+    for size in [1, 7, 64, 4096] {
+        if let Ok(shown) = outcome(rt.alloc(), stream, size, true) {
+            assert!(rt; is_outcome(shown.as_str(), wanted), "{shown}");
         }
     }
     Ok(())

@@ -14,10 +14,12 @@ struct Number {
     value: u32,
 }
 
-/// A bulk that lies whole at the front of a piece: its word, and how many bytes it has with its length and its line ends.
+/// A bulk that lies whole at the front of a piece: its word, the piece from the word on, and how many bytes it has with its length and
+/// its line ends.
 #[derive(Clone, Copy, Drop)]
 pub(crate) struct Bulk<'a> {
     pub word: &'a [u8],
+    pub from: &'a [u8],
     pub size: usize,
 }
 
@@ -53,12 +55,30 @@ fn ends_line(bytes: &[u8], at: usize) -> bool
     }
 }
 
+// The digit of a length's line that has one alone, as those of most words have.
+fn lone_digit(bytes: &[u8]) -> Option<u8>
+    ensures line { IfSome result (λ digit. take 4 bytes.now ≡ 36 ∷ digit ∷ 13 ∷ 10 ∷ []) }
+    ensures within { IfSome result (λ digit. 4 ≤ length bytes.now) }
+    ensures digit { IfSome result (λ digit. (48 ≤ digit) × (digit ≤ 57)) }
+{
+    match bytes {
+        [b'$', digit @ b'0'..=b'9', b'\r', b'\n', ..] => Some(*digit),
+        _ => None,
+    }
+}
+
 // The length that a bulk begins with, and the size of its line.
 fn length_line(bytes: &[u8]) -> Option<Number>
     ensures leads { IfSome result (λ n. (l sum : ℕ) (ws : List Bytes) → sum + n.value ≤ max_message_bytes → Leads (bulk l sum ws) (take n.size bytes.now) (body l (sum + n.value) ws n.value [])) }
     ensures within { IfSome result (λ n. n.size ≤ length bytes.now) }
     ensures value { IfSome result (λ n. n.value ≤ max_word_bytes) }
 {
+    if let Some(digit) = lone_digit(bytes) {
+        return Some(Number {
+            size: 4,
+            value: u32::from(digit - b'0'),
+        });
+    }
     if bytes.is_empty() || bytes[0] != b'$' {
         return None;
     }
@@ -79,14 +99,17 @@ pub(crate) fn whole_bulk(bytes: &[u8]) -> Option<Bulk>
     ensures within { IfSome result (λ b. b.size ≤ length bytes.now) }
     ensures some { IfSome result (λ b. 0 < b.size) }
     ensures length { IfSome result (λ b. length b.word.now ≤ max_word_bytes) }
+    ensures from { IfSome result (λ b. b.word.now ≡ take (length b.word.now) b.from.now) }
 {
     let line = length_line(bytes)?;
     let end = line.size + line.value as usize;
     if end > bytes.len() || !ends_line(bytes, end) {
         return None;
     }
+    let from = &bytes[line.size..];
     Some(Bulk {
-        word: &bytes[line.size..end],
+        word: &from[..line.value as usize],
+        from,
         size: end + 2,
     })
 }

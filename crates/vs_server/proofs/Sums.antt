@@ -12,7 +12,7 @@ use Rattle.vs_server.specs.Counts.{AtEach}
 use Rattle.vs_server.specs.Counts.{HasRun, IsFresh}
 use Rattle.vs_defs.specs.History.{IsPrefix}
 use Rattle.vs_defs.specs.Store.{Limits}
-use Rattle.vs_thread_defs.specs.Machine.{GraphHistory, GraphLegal}
+use Rattle.vs_thread_defs.specs.Machine.{GraphHistory, GraphLegal, IsGoodThroughout}
 use Rattle.vs_connection.specs.Point.{Point}
 use Rattle.vs_history.proofs.Beginnings.{prefix_trans}
 use Rattle.vs_server.specs.Chains.{start, Chained}
@@ -285,8 +285,8 @@ module _ {W L X : Type 0} (lis : W → L) (me : W → Me ℕ View) (has_failed :
       (m 0 y (omega arith))
       (chained_from P (number x) (number y) (seen x) (start seed (number x)) (seen y) (given (lis x)) (closed (lis x)) (given (lis y)) (closed (lis y)) p.0.0 p.0.1.3)
 
-  pub ended : (olds news : List L) (hs hs' : List W) (drawn : ℕ) (log : GraphHistory) → GraphLegal limits log → length hs' ≡ length hs → AtEach (λ v w. Went lis me has_failed number seen given closed faults P limit v w) hs hs' → All (λ v. seen v ≡ start seed (number v)) hs → GoDown number (length olds) hs → back lis hs ≡ olds → news ≡ back lis hs' → sum_by (λ w. (me w).0.below) hs' ≡ min drawn limit → sum_by (λ w. (me w).0.past) hs' ≡ drawn - limit → 0 < length olds → All (λ w. IsPrefix (seen w).history log) hs' → IsEnded limits seed P given closed faults limit olds news drawn
-  ended olds news hs hs' drawn log legal long went starts down is was served overs some met =
+  pub ended : (olds news : List L) (hs hs' : List W) (drawn : ℕ) (log : GraphHistory) → GraphLegal limits log → IsGoodThroughout log → length hs' ≡ length hs → AtEach (λ v w. Went lis me has_failed number seen given closed faults P limit v w) hs hs' → All (λ v. seen v ≡ start seed (number v)) hs → GoDown number (length olds) hs → back lis hs ≡ olds → news ≡ back lis hs' → sum_by (λ w. (me w).0.below) hs' ≡ min drawn limit → sum_by (λ w. (me w).0.past) hs' ≡ drawn - limit → 0 < length olds → All (λ w. IsPrefix (seen w).history log) hs' → IsEnded limits seed P given closed faults limit olds news drawn
+  ended olds news hs hs' drawn log legal good long went starts down is was served overs some met =
       let zip = at_each_zip (λ v w. Went lis me has_failed number seen given closed faults P limit v w) hs hs' long went in
       let both = at_each_zip (λ v w. (seen v ≡ start seed (number v)) × Went lis me has_failed number seen given closed faults P limit v w) hs hs' long (λ i d l. (starts i d l, went i d l)) in
       let many : length olds ≡ length hs = ap length (sym is) ∙ length_back lis hs in
@@ -294,5 +294,5 @@ module _ {W L X : Type 0} (lis : W → L) (me : W → Me ℕ View) (has_failed :
       subst (λ (xs : List L). IsEnded limits seed P given closed faults limit xs news drawn) is (subst (λ (ys : List L). IsEnded limits seed P given closed faults limit (back lis hs) ys drawn) (sym was) (record {
         done = λ e. is_done lis me has_failed number seen given closed faults P limit hs hs' zip drawn served overs few (e ∙ ap (λ (n : ℕ). limit + n) (length_back lis hs));
         fault = λ e. is_fault lis me has_failed number seen given closed faults P limit hs hs' zip drawn served overs few (λ f. e (f ∙ ap (λ (n : ℕ). limit + n) (sym (length_back lis hs))));
-        served = record { log = log; legal = legal; each = all_served hs hs' log (length olds) many both down.at met };
+        served = record { log = log; legal = legal; good = good; each = all_served hs hs' log (length olds) many both down.at met };
       }))

@@ -6,6 +6,7 @@
 --     Chained ..               the same of a listener that tells its links
 use Rattle.std.specs.Prelude.{◌≡◌, ◌⊎◌, ◌↔◌, ℕ, ◌<◌, List, [], ◌∷◌, ◌++◌, Option, Some, IfSome}
 use Rattle.vs_defs.specs.Bytes.{Bytes}
+use Rattle.vs_defs.specs.Stream.{Message}
 use Rattle.vs_defs.specs.Store.{Limits}
 use Rattle.vs_session_defs.specs.Words.{generator}
 use Rattle.vs_outside.specs.Known.{Adds, in_front, NothingLeft}
@@ -14,6 +15,7 @@ use Rattle.vs_connection.specs.declared.end.SessionEnd.{SessionEnd}
 use Rattle.vs_connection.specs.declared.end.SessionEnd.TheVariants.{Ended, CutShort, ReadFault, WriteFault}
 use Rattle.vs_connection.specs.Point.{Point}
 use Rattle.vs_connection.specs.Connection.{IsEnd}
+use Rattle.vs_connection.specs.Complete.{HasWhole, IsComplete}
 
 -- what a source has left and a sink holds, where they tell it, and their counts of faults
 module _ {I O : Type 0} (left : I → Option Bytes) (in_faults : I → ℕ) (written : O → Option Bytes) (out_faults : O → ℕ) (limits : Limits) where
@@ -27,6 +29,8 @@ module _ {I O : Type 0} (left : I → Option Bytes) (in_faults : I → ℕ) (wri
     pub nothing : (end ≡ Ended) ⊎ (end ≡ CutShort) → NothingLeft (left b.0)
     pub read_fault : (end ≡ ReadFault) ↔ (in_faults a.0 < in_faults b.0)
     pub write_fault : (end ≡ WriteFault) ↔ (out_faults a.1 < out_faults b.1)
+    pub complete : (messages : List Message) → HasWhole (left a.0) messages → in_faults b.0 ≡ in_faults a.0 → out_faults b.1 ≡ out_faults a.1
+        → IsComplete (GraphCall limits) k s end messages (left b.0) (written a.1) (written b.1) t
 
 -- nothing seen, and the first word of the number's stream to come
 abbrev pub start : ℕ → ℕ → Point GraphHistory

@@ -8,7 +8,7 @@ use Rattle.std.specs.Prelude.{◌≡◌, ℕ, ◌+◌, ◌-◌, ◌^◌, ◌<◌
 use Rattle.std.specs.List.{AllZip}
 use Rattle.vs_defs.specs.Store.{Limits}
 use Rattle.vs_defs.specs.History.{IsPrefix}
-use Rattle.vs_thread_defs.specs.Machine.{GraphHistory, GraphLegal}
+use Rattle.vs_thread_defs.specs.Machine.{GraphHistory, GraphLegal, IsGoodThroughout}
 use Rattle.vs_connection.specs.Point.{Point}
 use Rattle.vs_pass.specs.Knower.{Knower}
 use Rattle.vs_server.specs.declared.serve.ServeEnd.{ServeEnd}
@@ -66,11 +66,12 @@ AllServed P first B given closed n [] (w ∷ news) = ⊥
 AllServed P first B given closed n (v ∷ olds) [] = ⊥
 AllServed {L} {X} {S} P first B given closed n (v ∷ olds) (w ∷ news) = ((t : S) × B t × Chained P n n (first n) t (given v) (closed v) (given w) (closed w)) × AllServed P first B given closed (n + 1) olds news
 
--- there is one legal history that each listener's last list begins; the listener at each place is served by the number of its place, whose
+-- there is one legal history of good stores that each listener's last list begins; the listener at each place is served by the number of its place, whose
 -- words are those of the number's stream from its start
 pub record IsServed {L X : Type 0} (limits : Limits) (seed : ℕ) (P : ℕ → Point GraphHistory → X → X → Point GraphHistory → Type 0) (given closed : L → Option (List X)) (olds news : List L) : Type 0 where
   pub log : GraphHistory
   pub legal : GraphLegal limits log
+  pub good : IsGoodThroughout log
   pub each : AllServed P (start seed) (λ t. IsPrefix t.history log) given closed 0 olds news
 
 -- of the workers `all`, those that are not in hs have met

@@ -1,7 +1,7 @@
 //! The workers: dealt from a vector of listeners, run in threads, and given back in their order. All room was taken before.
 ghost use Rattle.std.specs.Prelude.{◌≡◌, ◌<◌, ◌≤◌, ◌++◌, ◌+◌, ◌-◌, [], true, false, All, length, min, sum_by, vec_capacity};
 ghost use Rattle.vs_defs.specs.History.{IsPrefix};
-ghost use Rattle.vs_thread_defs.specs.Machine.{GraphLegal};
+ghost use Rattle.vs_thread_defs.specs.Machine.{GraphLegal, IsGoodThroughout};
 ghost use Rattle.vs_outside.specs.Links.{Rose};
 ghost use Rattle.vs_pass.specs.Knower.{newcomers};
 ghost use Rattle.vs_session.specs.Shared.{point_of};
@@ -155,9 +155,10 @@ fn give_back<N: TableName, L: Listener, R: Wait>(
     (learn(word, all), last)
 }
 
-// Ends the last pass. What it had seen is legal.
+// Ends the last pass. What it had seen is legal and has good stores alone.
 fn end_last<N: TableName, R: Wait>(rt: &R, shared: &Shared<N>, last: Option<Pass<N>>)
-    ensures { GraphLegal N.limits (seen_by last) }
+    ensures legal { GraphLegal N.limits (seen_by last) }
+    ensures good { IsGoodThroughout (seen_by last) }
 {
     if let Some(last) = last {
         let _known = last.known();

@@ -1,10 +1,12 @@
 //! A connection alone, over a store of its own: each change of the store is one of the connection's own requests, and leaves a good store.
-ghost use Rattle.std.specs.Prelude.{◌≡◌, ◌<◌, ◌⊎◌, ◌↔◌};
+ghost use Rattle.std.specs.Prelude.{◌≡◌, ◌<◌, ◌⊎◌, ◌↔◌, List};
 ghost use Rattle.vs_defs.specs.Bytes.{Bytes};
+ghost use Rattle.vs_defs.specs.Stream.{Message};
 ghost use Rattle.vs_session_defs.specs.Words.{generator as generator_of};
 ghost use Rattle.vs_outside.specs.Known.{Adds, in_front, NothingLeft};
 ghost use Rattle.vs_thread_defs.specs.Machine.{GraphHistory};
-ghost use Rattle.vs_session.specs.Alone.{Call, Stored, EndsWith};
+ghost use Rattle.vs_connection.specs.Complete.{HasWhole};
+ghost use Rattle.vs_session.specs.Alone.{Call, Stored, EndsWith, CompletesAlone};
 
 use crate::{Machine, Server};
 use std::alloc::Global;
@@ -48,6 +50,8 @@ pub fn serve_alone<S: Source, K: Sink>(
     ensures end { (result ≡ SessionEnd.Ended) ⊎ (result ≡ SessionEnd.CutShort) → NothingLeft (S.left source.new) }
     ensures read_fault { (result ≡ SessionEnd.ReadFault) ↔ (S.faults source.old < S.faults source.new) }
     ensures write_fault { (result ≡ SessionEnd.WriteFault) ↔ (K.faults sink.old < K.faults sink.new) }
+    ensures complete { (messages : List Message) → HasWhole (S.left source.old) messages → S.faults source.new ≡ S.faults source.old → K.faults sink.new ≡ K.faults sink.old
+        → CompletesAlone result (generator_of seed 0) messages (S.left source.new) (K.written sink.old) (K.written sink.new) }
 {
     let machine = OwnStore {
         store: Store::new(alloc, Limits::usual()),

@@ -1,14 +1,17 @@
 //! A connection over a shared store, by a pass: each message is one call of the pass, and its reply is written before the next.
-ghost use Rattle.std.specs.Prelude.{◌≡◌, ◌<◌, ◌≤◌, ◌⊎◌, ◌↔◌, None, All, ℕ, length, IfOk};
+ghost use Rattle.std.specs.Prelude.{◌≡◌, ◌<◌, ◌≤◌, ◌⊎◌, ◌↔◌, None, All, ℕ, List, length, IfOk};
 ghost use Rattle.rand_pcg.specs.Lcg.{Lcg};
 ghost use Rattle.vs_defs.specs.Bytes.{Bytes};
+ghost use Rattle.vs_defs.specs.Stream.{Message};
 ghost use Rattle.vs_defs.specs.Reply as outcome;
 ghost use Rattle.vs_command.specs.Outcomes.{outcome_of};
 ghost use Rattle.vs_command.specs.Scores.{HasScores};
 ghost use Rattle.vs_reply.specs.Replies.{short_of};
+ghost use Rattle.vs_thread_defs.specs.Machine.{GraphCall, IsGoodThroughout};
 ghost use Rattle.vs_connection.specs.Served.{IsServed};
+ghost use Rattle.vs_connection.specs.Complete.{HasWhole, IsComplete};
 ghost use Rattle.vs_outside.specs.Known.{Adds, in_front, NothingLeft};
-ghost use Rattle.vs_session.specs.Shared.{Lent, lent_call, IsAt, ServesPass};
+ghost use Rattle.vs_session.specs.Shared.{Lent, lent_call, IsAt, point_of, ServesPass};
 
 use crate::call::call_shared;
 use crate::replies::Replies;
@@ -72,7 +75,8 @@ impl<'a, N: TableName, R: Wait, G: Gate> Handler for SharedServer<'a, N, R, G> {
 }
 
 /// Serves one connection by a pass over a shared store. Its changes are those of the pass's number, and its random words are the next of
-/// the pass's stream. The first failed read or write ends the connection.
+/// the pass's stream. The first failed read or write ends the connection. Every store of the history that the pass knows has reciprocal and
+/// bounded links between members that are there.
 ///
 /// As of `serve_by`, no clause says when it reads: each message is answered, and its reply written whole, before it reads or answers more.
 pub fn serve_connection<N: TableName, R: Wait, S: Source, K: Sink, G: Gate>(
@@ -86,9 +90,12 @@ pub fn serve_connection<N: TableName, R: Wait, S: Source, K: Sink, G: Gate>(
 ) -> SessionEnd
     ensures session { (input : Bytes) × (output : Bytes) × (S.left source.old ≡ in_front input (S.left source.new))
         × Adds (K.written sink.old) output (K.written sink.new) × ServesPass N.limits result pass.old input output pass.new }
+    ensures good { IsGoodThroughout pass.new.seen }
     ensures end { (result ≡ SessionEnd.Ended) ⊎ (result ≡ SessionEnd.CutShort) → NothingLeft (S.left source.new) }
     ensures read_fault { (result ≡ SessionEnd.ReadFault) ↔ (S.faults source.old < S.faults source.new) }
     ensures write_fault { (result ≡ SessionEnd.WriteFault) ↔ (K.faults sink.old < K.faults sink.new) }
+    ensures complete { (messages : List Message) → HasWhole (S.left source.old) messages → S.faults source.new ≡ S.faults source.old → K.faults sink.new ≡ K.faults sink.old
+        → IsComplete (GraphCall N.limits) pass.old.number (point_of pass.old) result messages (S.left source.new) (K.written sink.old) (K.written sink.new) (point_of pass.new) }
 {
     let mut replies = Replies::new(alloc);
     let mut server = SharedServer {
@@ -99,5 +106,8 @@ pub fn serve_connection<N: TableName, R: Wait, S: Source, K: Sink, G: Gate>(
         gate,
         replies: &mut replies,
     };
-    serve_by(alloc, &mut server, source, sink)
+    let end = serve_by(alloc, &mut server, source, sink);
+    // What a pass knows has good stores alone.
+    let _known = server.pass.known();
+    end
 }

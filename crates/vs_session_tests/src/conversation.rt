@@ -22,6 +22,55 @@ pub trait Serve {
 /// One message and its reply; none for a message that isn't answered.
 pub type Exchange = (&'static [u8], &'static [u8]);
 
+/// Exchanges, and how a connection with them ends.
+pub type Conversation = (&'static [Exchange], SessionEnd);
+
+const ARRAYS: &[Exchange] = &[
+    (b"*1\r\n$4\r\nPING\r\n", b"+PONG\r\n"),
+    (b"*0\r\n", b""),
+    (
+        b"*8\r\n$4\r\nVADD\r\n$1\r\ns\r\n$6\r\nVALUES\r\n$1\r\n2\r\n$1\r\n1\r\n$1\r\n1\r\n$1\r\na\r\n$3\r\nBIN\r\n",
+        b":1\r\n",
+    ),
+    (b"*2\r\n$5\r\nVCARD\r\n$1\r\ns\r\n", b":1\r\n"),
+    (
+        b"*3\r\n$4\r\nVEMB\r\n$1\r\ns\r\n$1\r\na\r\n",
+        b"*2\r\n$1\r\n1\r\n$1\r\n1\r\n",
+    ),
+];
+
+const ARRAYS_AND_QUIT: &[Exchange] = &[
+    (b"*1\r\n$4\r\nPING\r\n", b"+PONG\r\n"),
+    (
+        b"*2\r\n$4\r\nFROB\r\n$1\r\nx\r\n",
+        b"-ERR unknown command\r\n",
+    ),
+    (b"*1\r\n$4\r\nQUIT\r\n", b"+OK\r\n"),
+    (b"*1\r\n$4\r\nPING\r\n", b""),
+];
+
+const LINES: &[Exchange] = &[
+    (b"PING\r\n", b"+PONG\r\n"),
+    (b"\r\n", b""),
+    (b"VADD s VALUES 2 1 1 a\n", b":1\r\n"),
+    (b"VISMEMBER s a\r\n", b":1\r\n"),
+];
+
+const LINES_AND_QUIT: &[Exchange] = &[
+    (b"VCARD  s\n", b":0\r\n"),
+    (b"QUIT\r\n", b"+OK\r\n"),
+    (b"PING\r\n", b""),
+    (b"*x", b""),
+];
+
+/// Arrays and lines, to the end of input and to QUIT, of a server whose store is empty before.
+pub const CONVERSATIONS: [Conversation; 4] = [
+    (ARRAYS, SessionEnd::Ended),
+    (ARRAYS_AND_QUIT, SessionEnd::Quit),
+    (LINES, SessionEnd::Ended),
+    (LINES_AND_QUIT, SessionEnd::Quit),
+];
+
 /// How messages are cut into the pieces that reads give.
 #[derive(Clone, Copy)]
 pub enum Pieces {
@@ -39,7 +88,7 @@ struct Turn {
 
 // What both ends share: which turns were given, whether a read has failed, what is due, and what was written.
 #[derive(Drop)]
-struct Conversation {
+struct State {
     turns: List<Turn>,
     given: usize,
     has_failed: bool,
@@ -47,7 +96,7 @@ struct Conversation {
     written: Text,
 }
 
-impl Conversation {
+impl State {
     // The number of bytes of the next turn, which are in the buffer then; 0 at the end, and None where the read has to fail.
     fn give(&mut self, into: &mut [u8]) -> Option<usize>
         ensures { IfSome result (λ n. n ≤ length into.new) }
@@ -85,7 +134,7 @@ impl Conversation {
 
 #[derive(Drop)]
 struct Asking {
-    shared: Rc<RefCell<Conversation>>,
+    shared: Rc<RefCell<State>>,
     faults: u64,
 }
 
@@ -96,7 +145,7 @@ impl Source for Asking {
 
     fn read(&mut self, into: &mut [u8]) -> Took {
         let given = match self.shared.try_borrow_mut() {
-            Ok(mut conversation) => conversation.take_turn(into),
+            Ok(mut state) => state.take_turn(into),
             Err(_) => None,
         };
         match given {
@@ -113,7 +162,7 @@ impl Source for Asking {
 
 #[derive(Drop)]
 struct Listening {
-    shared: Rc<RefCell<Conversation>>,
+    shared: Rc<RefCell<State>>,
     faults: u64,
 }
 
@@ -124,7 +173,7 @@ impl Sink for Listening {
 
     fn write(&mut self, piece: &[u8]) -> Put {
         let is_kept = match self.shared.try_borrow_mut() {
-            Ok(mut conversation) => conversation.written.extend_from_slice(piece).is_ok(),
+            Ok(mut state) => state.written.extend_from_slice(piece).is_ok(),
             Err(_) => false,
         };
         if is_kept || self.faults == u64::MAX {
@@ -167,21 +216,21 @@ fn by_bytes(alloc: Global, exchanges: &[Exchange]) -> Result<List<Turn>, NoMemor
     Ok(turns)
 }
 
-/// Whether a connection with these messages ends so, each reply written before more is read, and no read failed.
+/// Whether a connection with these messages ends so, with each reply written before more is read, and no read failed.
 pub fn converses<C: Serve>(
     alloc: Global,
     server: &mut C,
-    exchanges: &[Exchange],
+    conversation: Conversation,
     pieces: Pieces,
-    end: SessionEnd,
 ) -> Result<bool, NoMemory> {
+    let (exchanges, end) = conversation;
     let turns = match pieces {
         Pieces::Messages(many) => by_messages(alloc, exchanges, many)?,
         Pieces::Bytes => by_bytes(alloc, exchanges)?,
     };
     let shared = Rc::new(
         alloc,
-        RefCell::new(Conversation {
+        RefCell::new(State {
             turns,
             given: 0,
             has_failed: false,
@@ -205,9 +254,7 @@ pub fn converses<C: Serve>(
         replies.extend_from_slice(reply)?;
     }
     match shared.try_borrow() {
-        Ok(conversation) => {
-            Ok(!conversation.has_failed && conversation.written.as_slice() == replies.as_slice())
-        }
+        Ok(state) => { Ok(!state.has_failed && state.written.as_slice() == replies.as_slice()) }
         Err(_) => Ok(false),
     }
 }

@@ -1,8 +1,9 @@
 //! Whole connections of the server, byte for byte: what they write, and how they end.
 #![tactic(auto)]
 
+pub mod conversation;
 #[cfg(test)]
-mod conversation;
+mod faults;
 #[cfg(test)]
 mod interaction;
 #[cfg(test)]

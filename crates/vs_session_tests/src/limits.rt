@@ -1,11 +1,10 @@
 //! Messages and replies as large as they come.
-use crate::requests::{push_bulk, push_number, push_request, requests};
+use crate::requests::{push_number, push_request, requests};
 use crate::served::served;
 use std::alloc::Global;
 use std::test::Fail;
 use vs_connection::SessionEnd;
 use vs_outside::{NoMemory, Text};
-use vs_resp::Fault;
 
 #[test]
 fn a_message_of_65_536_words_is_answered(rt: HostRuntime) -> Result<(), Fail> {
@@ -32,31 +31,6 @@ fn a_message_of_as_many_bytes_as_may_be_is_answered(rt: HostRuntime) -> Result<(
     let (end, sink) = served(alloc, input, 16_384, 0, 0)?;
     assert_eq!(rt; end, SessionEnd::Ended);
     assert_eq!(rt; sink.written(), b":0\r\n".as_slice());
-    Ok(())
-}
-
-#[test]
-fn a_message_of_more_bytes_is_a_fault(rt: HostRuntime) -> Result<(), Fail> {
-    let alloc = rt.alloc();
-    let bulk = vec![in alloc; b'y'; 65_536]?;
-    let mut input = Text::from_slice(alloc, b"*65\r\n")?;
-    for _bulk in 0..64 {
-        push_bulk(alloc, &mut input, bulk.as_slice())?;
-    }
-    input.extend_from_slice(b"$1")?;
-    let (end, sink) = served(alloc, input, 16_384, 0, 0)?;
-    let fault = Fault::MessageTooLarge;
-    assert_eq!(rt;
-        end,
-        SessionEnd::Protocol {
-            fault,
-            at: 4_194_950
-        }
-    );
-    assert_eq!(rt;
-        sink.written(),
-        b"-ERR Protocol error: message too long at byte 4194950\r\n".as_slice()
-    );
     Ok(())
 }
 

@@ -1,6 +1,6 @@
 //! Sessions with replies that were worked out by hand.
 use crate::requests::requests;
-use crate::served::{Worked, are_replied, gives, served};
+use crate::served::{Worked, are_replied, gives};
 use std::test::Fail;
 use vs_connection::SessionEnd;
 use vs_outside::Text;
@@ -176,36 +176,12 @@ const ENDS: &[(&[u8], SessionEnd, &[u8])] = &[
         b"+PONG\r\n",
     ),
     (
-        b"*1x",
-        SessionEnd::Protocol {
-            fault: Fault::BadCount,
-            at: 2,
-        },
-        b"-ERR Protocol error: bad array count at byte 2\r\n",
-    ),
-    (
-        b"*65537",
-        SessionEnd::Protocol {
-            fault: Fault::CountTooLarge,
-            at: 5,
-        },
-        b"-ERR Protocol error: array count too large at byte 5\r\n",
-    ),
-    (
         b"PING\n*65537",
         SessionEnd::Protocol {
             fault: Fault::CountTooLarge,
             at: 10,
         },
         b"+PONG\r\n-ERR Protocol error: array count too large at byte 10\r\n",
-    ),
-    (
-        b"*1\r\n$65537",
-        SessionEnd::Protocol {
-            fault: Fault::LengthTooLarge,
-            at: 9,
-        },
-        b"-ERR Protocol error: bulk too long at byte 9\r\n",
     ),
     (
         b"*1\r\n$3\r\nabcX",
@@ -223,34 +199,6 @@ fn connections_end_by_their_causes(rt: HostRuntime) -> Result<(), Fail> {
     for (input, end, output) in ENDS {
         let input = Text::from_slice(alloc, input)?;
         assert!(rt; gives(alloc, &input, *end, output)?);
-    }
-    Ok(())
-}
-
-#[test]
-fn a_message_that_is_cut_anywhere_is_not_answered(rt: HostRuntime) -> Result<(), Fail> {
-    let alloc = rt.alloc();
-    let message = requests(alloc, b"VADD|s|VALUES|3|1|-2|0|a|BIN")?;
-    for cut in 1..message.len() {
-        let input = Text::from_slice(alloc, &message.as_slice()[..cut])?;
-        assert!(rt; gives(alloc, &input, SessionEnd::CutShort, b"")?);
-    }
-    Ok(())
-}
-
-#[test]
-fn a_failed_read_or_write_ends_the_connection(rt: HostRuntime) -> Result<(), Fail> {
-    let alloc = rt.alloc();
-    let cases: [(u64, u64, SessionEnd, &[u8]); 3] = [
-        (0, 2, SessionEnd::WriteFault, b"+PONG\r\n"),
-        (0, 1, SessionEnd::WriteFault, b""),
-        (9, 0, SessionEnd::ReadFault, b"+PONG\r\n"),
-    ];
-    for (read_fault, write_fault, end, output) in cases {
-        let input = Text::from_slice(alloc, b"PING\r\nPING\r\nPING\r\n")?;
-        let (ended, sink) = served(alloc, input, 1, read_fault, write_fault)?;
-        assert_eq!(rt; ended, end);
-        assert_eq!(rt; sink.written(), output);
     }
     Ok(())
 }

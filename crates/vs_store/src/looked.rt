@@ -1,4 +1,6 @@
 //! A search that has looked.
+ghost use Rattle.std.specs.Prelude.{◌≡◌};
+
 use std::alloc::Global;
 use std::marker::Model;
 use vs_command::Search;
@@ -24,4 +26,13 @@ impl Model for Looked {
     ghost view = { λ l. record { search = search_of l.search; set = l.set } };
 
     ghost invariant = { λ l. IsLook (record { search = search_of l.search; set = l.set }) l.place };
+}
+
+impl Looked {
+    /// Whether the search goes through all members.
+    pub fn has_truth(&self) -> bool
+        ensures { result ≡ self.now.search.truth }
+    {
+        self.search.truth
+    }
 }

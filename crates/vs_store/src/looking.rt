@@ -1,5 +1,5 @@
 //! A search in two steps: a look, which takes the set of its key as it is, and its answer, which needs no store.
-ghost use Rattle.std.specs.Prelude.{◌≡◌, ◌-◌, false, None, Some, IfOk, IfErr, IfSome};
+ghost use Rattle.std.specs.Prelude.{◌≡◌, ◌-◌, false, true, None, Some, IfOk, IfErr, IfSome};
 ghost use Rattle.vs_defs.specs.Answers.{FindsOf};
 ghost use Rattle.vs_defs.specs.Bounds.{IsSearchInBounds};
 ghost use Rattle.vs_defs.specs.Counts.{ReadsToFind};
@@ -14,11 +14,13 @@ ghost use Rattle.vs_query.specs.Found.{place_sought};
 ghost use Rattle.vs_store.specs.Causes.{IsCause};
 
 use crate::{Looked, Store};
+use std::alloc::Global;
 use std::sync::ledger::Ledger;
+use std::thread::Threads;
 use vs_command::{Answer, Refusal, Search, What};
 use vs_graph::Steps;
 use vs_outside::{List, NoMemory};
-use vs_query::find;
+use vs_query::{find, find_wide};
 use vs_set::{Kept, Set};
 use vs_slot::Slot;
 
@@ -38,6 +40,19 @@ pub(crate) fn place_in(set: &Set<Kept>, what: &What) -> Result<Option<u32>, Refu
             has: set.dim(),
         }),
         What::Values(_) => Ok(None),
+    }
+}
+
+/// What a search of an absent key answers. It takes no memory.
+fn no_hits(alloc: Global, search: &Search) -> Answer
+    ensures found { FindsOf (search_of search.now) None (answer_of result) }
+    ensures scores { HasScores result }
+{
+    Answer::Hits {
+        dim: 1,
+        scores: search.scores,
+        attrs: search.attrs,
+        hits: List::new(alloc),
     }
 }
 
@@ -97,12 +112,25 @@ impl Store {
         } = looked;
         match set {
             Some(snap) => find(alloc, &snap, &search, place, slot, reads),
-            None => Ok(Answer::Hits {
-                dim: 1,
-                scores: search.scores,
-                attrs: search.attrs,
-                hits: List::new(alloc),
-            }),
+            None => Ok(no_hits(alloc, &search)),
+        }
+    }
+
+    /// Answers a search with TRUTH in the set at its look, by several threads where the set has many members.
+    pub fn finish_wide(rt: &(impl Threads + Sync), looked: Looked) -> Result<Answer, NoMemory>
+        requires truth { looked.search.truth ≡ true }
+        ensures found { IfOk result (λ answer. FindsOf looked.search looked.set (answer_of answer)) }
+        ensures scores { IfOk result HasScores }
+    {
+        let Looked {
+            alloc,
+            search,
+            set,
+            place,
+        } = looked;
+        match set {
+            Some(snap) => find_wide(rt, alloc, &snap, &search, place),
+            None => Ok(no_hits(alloc, &search)),
         }
     }
 }

@@ -4,13 +4,13 @@ ghost use Rattle.vs_command.specs.Readings.{AreShort};
 ghost use Rattle.vs_store.specs.Kept.{AreUsual};
 ghost use Rattle.vs_store.specs.Seen.{limits_seen};
 
-use crate::shown::show;
 use std::alloc::{AllocError, Global};
 use std::process::Abort;
 use vs_command::{Answer, Refusal, draws, read_request};
 use vs_outside::{List, NoMemory, Text};
 use vs_slot::Slot;
 use vs_store::{Limits, Store};
+use vs_store_fixtures::show;
 
 /// A store, with what its searches take.
 #[derive(Drop)]

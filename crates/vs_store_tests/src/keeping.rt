@@ -1,45 +1,13 @@
 //! Whether a store keeps what the plain list has.
 use crate::asking::{Asked, check, outcome_of};
-use crate::plain::{Member, Plain, count_attributes, count_of, greatest_level};
 use std::alloc::Global;
 use std::process::Abort;
 use vs_command::Answer;
-use vs_outside::{List, NoMemory};
-
-/// Keys and names of the tests.
-pub const KEYS: [u8; 4] = *b"klmn";
-
-/// The components of a vector as signs.
-fn signs_of(alloc: Global, member: &Member) -> Result<String, NoMemory> {
-    let mut shown = String::new(alloc);
-    let mut rest = member.vector;
-    for _component in 0..member.dim {
-        shown.push_str(if rest & 1 == 1 { "+" } else { "-" })?;
-        rest >>= 1;
-    }
-    Ok(shown)
-}
-
-/// The text of an attribute.
-pub fn attribute_of(alloc: Global, number: u8) -> Result<String, NoMemory> {
-    Ok(format!(in alloc; "{{\"n\":{number}}}")?)
-}
-
-/// The least word that picks a place among so many.
-fn word_for(place: u32, members: u32) -> u32 {
-    let members = u64::from(members).max(1);
-    let word = (u64::from(place) << 32).saturating_add(members - 1) / members;
-    u32::try_from(word).unwrap_or(u32::MAX)
-}
-
-/// A word for each place, in their order.
-pub fn words_for(alloc: Global, members: u32) -> Result<List<u32>, NoMemory> {
-    let mut words = List::new(alloc);
-    for place in 0..members {
-        words.push(word_for(place, members))?;
-    }
-    Ok(words)
-}
+use vs_outside::NoMemory;
+use vs_store_fixtures::{
+    KEYS, Member, Plain, attribute_of, count_attributes, count_of, greatest_level, signs_of,
+    words_for,
+};
 
 /// The names are in their places.
 fn check_places(

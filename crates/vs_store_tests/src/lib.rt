@@ -4,21 +4,13 @@
 #[cfg(test)]
 mod asking;
 #[cfg(test)]
-mod hits;
-#[cfg(test)]
 mod keeping;
 #[cfg(test)]
 mod links;
 #[cfg(test)]
 mod memory;
 #[cfg(test)]
-mod plain;
-#[cfg(test)]
-mod random;
-#[cfg(test)]
 mod requests;
-#[cfg(test)]
-mod shown;
 #[cfg(test)]
 mod tests;
 #[cfg(test)]

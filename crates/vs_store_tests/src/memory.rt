@@ -2,8 +2,6 @@
 //! with the store as before, and then the request is carried out when it comes again. At most one allocation is refused in a run, by
 //! `tools/refused`; with none the test is that of the answers.
 use crate::asking::{Asked, check, outcome_of};
-use crate::keeping::words_for;
-use crate::shown::show;
 use crate::worked::{ALL, Step};
 use std::alloc::{AllocError, Global};
 use std::process::Abort;
@@ -11,6 +9,7 @@ use std::test::Fail;
 use vs_command::{Answer, Refusal};
 use vs_outside::{List, NoMemory, Text};
 use vs_store::Limits;
+use vs_store_fixtures::{show, words_for};
 
 /// A line's answer after a text.
 fn push_answer(

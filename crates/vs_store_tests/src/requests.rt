@@ -4,15 +4,15 @@ ghost use Rattle.vs_store.specs.Kept.{AreUsual};
 ghost use Rattle.vs_store.specs.Seen.{limits_seen};
 
 use crate::asking::{Asked, check, outcome_of};
-use crate::hits::{Sought, check_hits, nearest_text};
-use crate::keeping::{KEYS, attribute_of};
-use crate::plain::{Member, Plain};
-use crate::random::Random;
 use std::alloc::Global;
 use std::process::Abort;
-use vs_command::{Answer, Refusal, level_of_word};
+use vs_command::{Answer, level_of_word};
 use vs_outside::{List, NoMemory};
 use vs_store::Limits;
+use vs_store_fixtures::{
+    KEYS, Member, Plain, Random, Sought, attribute_of, check_hits, component_words, nearest_text,
+    picked, picked_again, refusal_of_addition,
+};
 
 /// A store beside the plain list, and what requests are drawn from.
 #[derive(Drop)]
@@ -85,46 +85,7 @@ impl Trial {
     }
 }
 
-/// The components of a vector as words, each with a blank before it.
-fn components(alloc: Global, dim: u32, vector: u32) -> Result<String, NoMemory> {
-    let mut words = String::new(alloc);
-    let mut rest = vector;
-    for _component in 0..dim {
-        words.push_str(if rest & 1 == 1 { " 0.5" } else { " -1" })?;
-        rest >>= 1;
-    }
-    Ok(words)
-}
-
 // ---- additions
-
-/// Why an addition is refused.
-fn refusal_of(trial: &Trial, member: &Member, m: Option<u16>) -> Result<Option<Refusal>, NoMemory> {
-    let count = trial.plain.count(member.key);
-    let all = trial.plain.count_all();
-    let full = all >= trial.limits.all;
-    let is_new = !trial.plain.has(member.key, member.name);
-    Ok(match (trial.plain.first_of(member.key), m) {
-        (Some(first), _) if first.dim != member.dim => Some(Refusal::WrongDimension {
-            given: member.dim,
-            has: first.dim,
-        }),
-        (Some(first), Some(m)) if first.m != m => Some(Refusal::WrongM {
-            given: m,
-            has: first.m,
-        }),
-        (Some(_), _) if is_new && count >= trial.limits.set => {
-            Some(Refusal::FullSet { members: count })
-        }
-        (None, _) if trial.plain.count_keys(&KEYS) >= trial.limits.keys => Some(
-            Refusal::FullKeys {
-                keys: trial.plain.count_keys(&KEYS),
-            },
-        ),
-        _ if is_new && full => Some(Refusal::FullAll { members: all }),
-        _ => None,
-    })
-}
 
 /// The words of an addition that are options.
 fn options(trial: &mut Trial, m: Option<u16>, number: Option<u8>) -> Result<String, NoMemory> {
@@ -207,7 +168,7 @@ fn addition_line(trial: &mut Trial, addition: Addition) -> Result<String, NoMemo
         ..
     } = addition.member;
     let alloc = trial.asked.alloc;
-    let words = components(alloc, dim, vector)?;
+    let words = component_words(alloc, dim, vector)?;
     let options = options(trial, addition.m, addition.number)?;
     let (key, name) = (key as char, name as char);
     Ok(format!(in alloc; "VADD {key} VALUES {dim}{words} {name}{options}")?)
@@ -218,7 +179,7 @@ fn add(rt: &impl Abort, trial: &mut Trial) -> Result<u8, NoMemory> {
     let addition = drawn(trial);
     let member = addition.member;
     let line = addition_line(trial, addition)?;
-    let refusal = refusal_of(trial, &member, addition.m)?;
+    let refusal = refusal_of_addition(&trial.plain, trial.limits, &member, addition.m);
     let is_new = !trial.plain.has(member.key, member.name);
     let wanted = match refusal {
         Some(refusal) => format!(in alloc; "{refusal:?}")?,
@@ -288,30 +249,20 @@ fn set_attribute(rt: &impl Abort, trial: &mut Trial) -> Result<u8, NoMemory> {
 
 // ---- random picks
 
-/// Picks without repetition: each word takes one of those that are left, and the first of these takes its place.
-fn picked(alloc: Global, members: &[Member], words: &[u32]) -> Result<String, NoMemory> {
-    let mut rest = List::from_slice(alloc, members)?.into_vec();
-    let mut shown = String::new(alloc);
-    for word in words {
-        let left = rest.len();
-        if left > 0 {
-            let place = (u64::from(*word) * (left as u64 & 0xFFFF_FFFF) >> 32) as usize;
-            rest.swap(0, place.min(left - 1));
-            let member = rest.remove(0);
-            shown.push_str(format!(in alloc; " {}", member.name as char)?.as_str())?;
-        }
+/// So many words.
+fn drawn_words(trial: &mut Trial, count: u32) -> Result<List<u32>, NoMemory> {
+    let mut words = List::new(trial.asked.alloc);
+    for _pick in 0..count {
+        words.push(trial.random.word())?;
     }
-    Ok(shown)
+    Ok(words)
 }
 
 fn pick(rt: &impl Abort, trial: &mut Trial) -> Result<u8, NoMemory> {
     let alloc = trial.asked.alloc;
     let key = trial.key();
     let count = trial.random.below(30);
-    let mut words = List::new(alloc);
-    for _pick in 0..count {
-        words.push(trial.random.word())?;
-    }
+    let words = drawn_words(trial, count)?;
     let members = trial.plain.members_of(key)?;
     let wanted = picked(alloc, members.as_slice(), words.as_slice())?;
     let line = format!(in alloc; "VRANDMEMBER {} {count}", key as char)?;
@@ -322,6 +273,42 @@ fn pick(rt: &impl Abort, trial: &mut Trial) -> Result<u8, NoMemory> {
         words.as_slice(),
         wanted.as_str(),
     )?;
+    Ok(key)
+}
+
+fn pick_again(rt: &impl Abort, trial: &mut Trial) -> Result<u8, NoMemory> {
+    let alloc = trial.asked.alloc;
+    let key = trial.key();
+    let count = 1 + trial.random.below(30);
+    let words = drawn_words(trial, count)?;
+    let members = trial.plain.members_of(key)?;
+    let wanted = picked_again(alloc, members.as_slice(), words.as_slice())?;
+    let line = format!(in alloc; "VRANDMEMBER {} -{count}", key as char)?;
+    check(
+        rt,
+        &mut trial.asked,
+        line.as_str(),
+        words.as_slice(),
+        wanted.as_str(),
+    )?;
+    Ok(key)
+}
+
+// ---- short questions
+
+/// Asks for a dimension, and whether a name, there or not, is a member's.
+fn ask(rt: &impl Abort, trial: &mut Trial) -> Result<u8, NoMemory> {
+    let alloc = trial.asked.alloc;
+    let (key, name) = (trial.key(), trial.name());
+    let line = format!(in alloc; "VDIM {}", key as char)?;
+    let wanted = match trial.plain.first_of(key) {
+        Some(first) => format!(in alloc; "{}", first.dim)?,
+        None => format!(in alloc; "NoSuchKey")?,
+    };
+    check(rt, &mut trial.asked, line.as_str(), &[], wanted.as_str())?;
+    let line = format!(in alloc; "VISMEMBER {} {}", key as char, name as char)?;
+    let wanted = if trial.plain.has(key, name) { "1" } else { "0" };
+    check(rt, &mut trial.asked, line.as_str(), &[], wanted)?;
     Ok(key)
 }
 
@@ -391,7 +378,7 @@ fn search_vector(rt: &impl Abort, trial: &mut Trial) -> Result<u8, NoMemory> {
     };
     let vector = trial.vector(dim);
     let sought = sought_by(trial, vector);
-    let words = components(alloc, dim, vector)?;
+    let words = component_words(alloc, dim, vector)?;
     let options = search_options(trial, sought)?;
     let line = format!(in alloc; "VSIM {} VALUES {dim}{words}{options}", key as char)?;
     check_search(rt, trial, line.as_str(), key, sought)?;
@@ -421,11 +408,13 @@ fn search_member(rt: &impl Abort, trial: &mut Trial) -> Result<u8, NoMemory> {
 pub fn step(rt: &impl Abort, trial: &mut Trial) -> Result<u8, NoMemory> {
     match trial.random.below(100) {
         0..50 => add(rt, trial),
-        50..68 => remove(rt, trial),
-        68 => remove_keys(rt, trial),
-        69..76 => set_attribute(rt, trial),
-        76..82 => pick(rt, trial),
-        82..92 => search_vector(rt, trial),
+        50..67 => remove(rt, trial),
+        67 => remove_keys(rt, trial),
+        68..74 => set_attribute(rt, trial),
+        74..78 => ask(rt, trial),
+        78..82 => pick(rt, trial),
+        82..85 => pick_again(rt, trial),
+        85..93 => search_vector(rt, trial),
         _ => search_member(rt, trial),
     }
 }

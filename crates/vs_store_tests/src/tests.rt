@@ -1,11 +1,12 @@
 //! Two thousand requests beside the plain list.
-use crate::keeping::{KEYS, check_set, check_sets};
+use crate::keeping::{check_set, check_sets};
 use crate::links::check_graph;
 use crate::requests::{Trial, step};
 use std::process::Abort;
 use std::test::Fail;
 use vs_outside::NoMemory;
 use vs_store::Limits;
+use vs_store_fixtures::KEYS;
 
 /// How many requests are drawn.
 const REQUESTS: u32 = 2_000;

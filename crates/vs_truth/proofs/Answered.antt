@@ -1,6 +1,6 @@
 -- The first of what the scan found are the definitions' nearest members.
-use Rattle.std.proofs.Common.{subst, ◌≡◌, ◌≢◌, ℕ, zero, suc, ◌+◌, ◌<◌, ◌≤◌, Bool, true, false, cond, List, [], ◌∷◌, ◌++◌, length, take, refl, sym, ap, ◌∙◌, arith, map, append_assoc, length-append}
-use Rattle.std.specs.Prelude.{slice_get, Some, filter, min}
+use Rattle.std.proofs.Common.{subst, ◌≡◌, ◌≢◌, ℕ, zero, suc, ◌+◌, ◌<◌, Bool, true, false, cond, List, [], ◌∷◌, ◌++◌, length, take, refl, sym, ap, ◌∙◌, arith, map, append_assoc, length-append}
+use Rattle.std.specs.Prelude.{slice_get, Some, filter}
 use Rattle.std.specs.List.{AllByRecursion}
 use Rattle.std.specs.Ordering.{nat_cmp, ordering_then, is_gt}
 use Rattle.std.specs.declared.cmp.Ordering.{Ordering}
@@ -9,9 +9,9 @@ use Rattle.std.proofs.Math.Seq.{get_or-append_seam}
 use Rattle.std.proofs.lemmas.Bool.Decides.{nat_tests}
 use Rattle.std.proofs.lemmas.Map.Lookups.{exact_bytes}
 use Rattle.std.proofs.lemmas.Option.{slice_get-get_or}
-use Rattle.std.proofs.lemmas.List.{length-map, take-map}
+use Rattle.std.proofs.lemmas.List.{take-map}
 use Rattle.std.proofs.lemmas.List.Elements.{All-from_recursion, recursion_from_All}
-use Rattle.std.proofs.lemmas.List.Sorted.{All-permutation, length_permutation}
+use Rattle.std.proofs.lemmas.List.Sorted.{All-permutation}
 use Rattle.vs_defs.specs.Vector.{Vector, ham}
 use Rattle.vs_defs.specs.Bytes.{name_cmp, sort_by, place_by}
 use Rattle.vs_defs.specs.Store.{Member}
@@ -21,8 +21,7 @@ use Rattle.vs_rank.proofs.Sorted.{sort_permutes}
 use Rattle.vs_truth.specs.declared.candidate.Hit.{Hit}
 use Rattle.vs_truth.specs.declared.candidate.Candidate.{Candidate}
 use Rattle.vs_truth.specs.Nearest.{AreHits, nearest_passing}
-use Rattle.vs_truth.specs.Nears.{Near, near_cmp, near_of, near_at, near_hit, nears_of, placed_from, candidate_hit}
-use Rattle.vs_laws.proofs.Lists.{take_least}
+use Rattle.vs_truth.specs.Nears.{Near, near_cmp, near_of, near_at, near_hit, nears_of, firsts, placed_from, candidate_hit}
 
 abbrev pub Placed : Type 0
 Placed = ℕ × Member
@@ -131,14 +130,6 @@ stand p members before (x ∷ xs) n e l =
     stands_case (p x.attr) members n x (placed_from p (n + 1) xs) here
     (stand p members (before ++ x ∷ []) xs (n + 1) (e ∙ sym (append_assoc before (x ∷ []) xs)) (omega (arith, length-append before (x ∷ []))))
 
-placed_few_case : (b : Bool) (n : ℕ) (r : Placed) (rows : List Placed) → length rows ≤ n → length (cond b (r ∷ rows) rows) ≤ n + 1
-placed_few_case true n r rows h = omega arith
-placed_few_case false n r rows h = omega arith
-
-placed_few : (p : Attribute → Bool) (n : ℕ) (xs : List Member) → length (placed_from p n xs) ≤ length xs
-placed_few p n [] = omega arith
-placed_few p n (x ∷ xs) = omega (arith, placed_few_case (p x.attr) (length xs) (n, x) (placed_from p (n + 1) xs) (placed_few p (n + 1) xs))
-
 -- ---- the hits
 
 abbrev pub IsPlaced : List Member → Placed → Type 0
@@ -162,16 +153,13 @@ hits_are q members first nears hits made are all = record {
 }
 
 pub answered : (p : Attribute → Bool) (q : Vector) (count : ℕ) (members : List Member) (xs : List Candidate) (hits : List Hit)
-    → hits ≡ map candidate_hit xs → map near_of xs ≡ take (min count (length members)) (sort_by near_cmp (nears_of p q members))
+    → hits ≡ map candidate_hit xs → map near_of xs ≡ firsts count (nears_of p q members)
     → AreHits q members (nearest_passing p count q members) hits
 answered p q count members xs hits made found =
     let rows : List Placed = placed_from p 0 members in
     let ranked : List Placed = sort_by (placed_cmp q) rows in
     let first : List Placed = take count ranked in
-    let few : length (sort_by near_cmp (nears_of p q members)) ≤ length members
-    = omega (arith, length_permutation (nears_of p q members) (sort_by near_cmp (nears_of p q members)) (sort_permutes near_cmp (nears_of p q members)), length-map rows (near_at q), placed_few p 0 members) in
-    let nears : map near_of xs ≡ map (near_at q) first
-    = found ∙ take_least count (length members) (sort_by near_cmp (nears_of p q members)) few ∙ ap (take count) (sym (sort_seen q rows)) ∙ take-map (near_at q) count ranked in
+    let nears : map near_of xs ≡ map (near_at q) first = found ∙ ap (take count) (sym (sort_seen q rows)) ∙ take-map (near_at q) count ranked in
     let members_are : map member_in first ≡ nearest_passing p count q members = sym (take-map member_in count ranked) ∙ ap (take count) (sort_members p q 0 members) in
     let all : AllByRecursion (IsPlaced members) first = all_take (IsPlaced members) count ranked (all_sorted (placed_cmp q) (IsPlaced members) rows (stand p members [] members 0 refl refl)) in
     subst (λ l. AreHits q members l hits) members_are (hits_are q members first (map near_of xs) hits (made ∙ sym (map_map near_of near_hit xs)) nears all)

@@ -90,9 +90,13 @@ pub some_kept : (nears : List Near) (x : Near) → option_map_or (λ last. is_gt
 some_kept [] x h = absurd (both_ways false refl h)
 some_kept (y ∷ ys) x h = omega arith
 
+-- candidates in order
+pub in_order : (xs ys : List Candidate) → IsPermutation xs ys → IsSortedBy (λ x y. is_lt (candidate_cmp x y)) ys → seen ys ≡ sort_by near_cmp (seen xs)
+in_order xs ys same up =
+    sym (sorted.sort_is near_cmp near_order (seen xs) (seen ys) (sorted.ascends_from_sort near_cmp near_order (seen ys) (sorted-map (λ x y. is_lt (near_cmp x y)) near_of ys up)) (IsPermutation-map near_of xs ys same))
+
 pub sorted_out : (h : BinaryHeap Candidate Global) (xs : List Candidate) → IsPermutation (heap_items h) xs → IsSortedBy (λ x y. is_lt (candidate_cmp x y)) xs → seen xs ≡ kept h
-sorted_out h xs same up =
-    sym (sorted.sort_is near_cmp near_order (seen (heap_items h)) (seen xs) (sorted.ascends_from_sort near_cmp near_order (seen xs) (sorted-map (λ x y. is_lt (near_cmp x y)) near_of xs up)) (IsPermutation-map near_of (heap_items h) xs same))
+sorted_out h xs same up = in_order (heap_items h) xs same up
 
 pub offered_full : (h : BinaryHeap Candidate Global) (first : First) (x : Near) (r b : Bool) → (v : First) → v ≡ first → v.nears ≡ kept h → length first.nears ≡ first.most
     → r ≡ option_map_or (λ last. is_gt (near_cmp last x)) (slice_get first.nears (length first.nears - 1)) false → r ≡ b

@@ -1,10 +1,10 @@
 -- What the scan has found, by distance, name and place.
-use Rattle.std.specs.Prelude.{ℕ, ◌+◌, ◌-◌, ◌&&◌, nat_le, nat_lt, Bool, false, cond, List, [], ◌∷◌, length, slice_get, map}
+use Rattle.std.specs.Prelude.{ℕ, ◌+◌, ◌*◌, ◌-◌, ◌&&◌, nat_le, nat_lt, Bool, false, cond, List, [], ◌∷◌, length, take, drop, slice_get, slice_range, map}
 use Rattle.std.specs.Option.{option_map_or}
 use Rattle.std.specs.Ordering.{nat_cmp, ordering_then}
 use Rattle.std.specs.declared.cmp.Ordering.{Ordering}
 use Rattle.vs_defs.specs.Vector.{Vector, ham}
-use Rattle.vs_defs.specs.Bytes.{Bytes, name_cmp}
+use Rattle.vs_defs.specs.Bytes.{Bytes, name_cmp, sort_by}
 use Rattle.vs_defs.specs.Store.{Member}
 use Rattle.vs_rank.specs.Tests.{Attribute}
 use Rattle.vs_truth.specs.declared.candidate.Hit.{Hit}
@@ -52,3 +52,15 @@ near_at q placed = record { dist = ham q placed.1.bits; name = placed.1.name; pl
 
 abbrev pub nears_of : (Attribute → Bool) → Vector → List Member → List Near
 nears_of passes q members = map (near_at q) (placed_from passes 0 members)
+
+-- the first few, in order
+abbrev pub firsts : ℕ → List Near → List Near
+firsts most nears = take most (sort_by near_cmp nears)
+
+-- the same of the places of a range
+abbrev pub nears_between : (Attribute → Bool) → Vector → List Member → ℕ → ℕ → List Near
+nears_between passes q members from to = map (near_at q) (placed_from passes from (slice_range members from to))
+
+-- and of a piece: 4,096 places, fewer in the last
+abbrev pub nears_of_piece : (Attribute → Bool) → Vector → List Member → ℕ → List Near
+nears_of_piece passes q members piece = map (near_at q) (placed_from passes (piece * 4096) (take 4096 (drop (piece * 4096) members)))

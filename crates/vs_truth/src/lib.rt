@@ -4,6 +4,8 @@
 mod candidate;
 mod members;
 mod nearest_heap;
+mod pieces;
+mod rows;
 mod scan;
 #[cfg(test)]
 mod tests;
@@ -11,4 +13,6 @@ mod tests;
 pub use candidate::{Candidate, Hit};
 pub use members::Members;
 pub use nearest_heap::NearestHeap;
+pub use pieces::{LEAST_IN_PIECES, nearest_in_pieces};
+pub use rows::{Row, nearest_wide};
 pub use scan::{hits_of, nearest};

@@ -1,16 +1,17 @@
 //! Exact search: one scan over all members, in any order of their distances.
-ghost use Rattle.std.specs.Prelude.{◌≡◌, ◌+◌, ◌<◌, ◌≤◌, Bool, if◌then◌else◌, Option, length, map, take, slice_get, All, IfOk, IsSomeAnd};
-ghost use Rattle.vs_defs.specs.Bytes.{Bytes, sort_by, place_by};
+ghost use Rattle.std.specs.Prelude.{◌≡◌, ◌+◌, ◌-◌, ◌<◌, ◌≤◌, Bool, if◌then◌else◌, Option, length, map, take, slice_get, All, IfOk, IsSomeAnd};
+ghost use Rattle.vs_defs.specs.Bytes.{Bytes, place_by};
 ghost use Rattle.vs_defs.specs.FilterText.{passes_filter};
 ghost use Rattle.vs_defs.specs.Truth as truth;
 ghost use Rattle.vs_rank.specs.Tests.{Attribute, Answers};
 ghost use Rattle.vs_truth.specs.Nearest.{AreHits, nearest_passing};
-ghost use Rattle.vs_truth.specs.Nears.{near_cmp, nears_of, candidate_hit};
+ghost use Rattle.vs_truth.specs.Nears.{near_cmp, firsts, nears_between, candidate_hit};
 
 use crate::candidate::Candidate;
 use crate::nearest_heap::NearestHeap;
 use crate::{Hit, Members};
 use std::alloc::{AllocError, Global};
+use std::ops::Range;
 use std::sync::ledger::Ledger;
 use vs_bits::Bits;
 use vs_graph::Steps;
@@ -42,22 +43,28 @@ fn offer_member<'a, M: Members, F: Testing>(
     }
 }
 
-/// The first `most` of the members that pass.
-fn first_passing<'a, M: Members, F: Testing, L: Ledger>(
+/// The first `most` of the members at a range of places that pass.
+pub(crate) fn first_passing<'a, M: Members, F: Testing, L: Ledger>(
     alloc: Global,
     members: &'a M,
+    places: Range<u32>,
     query: &Bits,
     most: u32,
     wanted: &Wanted<F>,
     reads: &mut Steps<L>,
 ) -> Result<NearestHeap<'a>, AllocError>
     requires fits { All (λ member. length member.bits ≡ length query.now) (M.members members.now) }
-    ensures nears { IfOk result (λ few. (passes : Attribute → Bool) → Answers (F.gives wanted.now.test) passes → few.nears ≡ take most (sort_by near_cmp (nears_of passes query.now (M.members members.entry.now)))) }
-    ensures told { reads.new ≤ reads.old + length (M.members members.entry.now) }
+    requires forwards { places.start ≤ places.end }
+    requires within { places.end ≤ length (M.members members.now) }
+    ensures nears { IfOk result (λ few. (passes : Attribute → Bool) → Answers (F.gives wanted.now.test) passes → few.nears ≡ firsts most (nears_between passes query.now (M.members members.entry.now) places.start places.end)) }
+    ensures told { reads.new ≤ reads.old + (places.end - places.start) }
 {
     let words = query.words();
-    let mut few = NearestHeap::new(alloc, most)?;
-    for place in 0..members.count() {
+    let from = places.start;
+    let to = places.end;
+    let room = most.min(to - from);
+    let mut few = NearestHeap::new(alloc, room)?;
+    for place in from..to {
         let dist = distance(words, members.bits(place, reads));
         offer_member(&mut few, members, place, dist, wanted);
     }
@@ -92,8 +99,8 @@ pub fn nearest<M: Members, F: Testing, L: Ledger>(
     ensures filter { IfOk result (λ hits. (text : Option Bytes) → Answers (F.gives wanted.now.test) (passes_filter text) → AreHits query.now (M.members members.now) (truth.nearest count query.now text (M.members members.now)) hits) }
     ensures told { reads.new ≤ reads.old + length (M.members members.now) }
 {
-    let most = count.min(members.count());
-    let few = first_passing(alloc, members, query, most, wanted, reads)?;
+    let all = members.count();
+    let few = first_passing(alloc, members, 0..all, query, count, wanted, reads)?;
     let hits = hits_of(alloc, few.into_sorted().as_slice())?;
     Ok(List::from_vec(hits))
 }

@@ -4,8 +4,8 @@ use Rattle.vs_defs.specs.ProgramWords.{settings_of}
 use Rattle.vs_args.specs.Readings.{job_of}
 use Rattle.vs_args.specs.Words.{job_named, seen, command_named, choices_of}
 use Rattle.vs_args.specs.Settings.{Gives}
-use Rattle.vs_args.specs.declared.command.Command.TheVariants.{Script, Generate, Serve}
-use Rattle.vs_args.proofs.Options.{split_first, job_by_command, job_with, script_of, generate_of, serve_of, in_ranges, in_server_ranges}
+use Rattle.vs_args.specs.declared.command.Command.TheVariants.{Script, Schedule, Generate, Serve}
+use Rattle.vs_args.proofs.Options.{split_first, job_by_command, job_with, script_of, schedule_of, generate_of, serve_of, in_ranges, in_server_ranges}
 use Rattle.vs_args.proofs.plain.plain_job.Goals as goal
 
 pub returns-in_err-seed-clause-job : goal.returns-in_err-seed-clause-job
@@ -28,6 +28,17 @@ returns-in-Script-clause-job c =
     let at_choices = subst (λ cs. Gives (Some c.in_ok-seed.field-0) (settings_of (seen cs) rest)) choices given in
     script_of c.in_ok-seed.field-0 (settings_of (seen (choices_of Script)) rest) at_choices
     ∙ sym (ap job_named words ∙ job_by_command c.word-item.result rest Script named)
+
+pub returns-in-Schedule-clause-job : goal.returns-in-Schedule-clause-job
+returns-in-Schedule-clause-job c =
+    let words = split_first c.args.words.now c.word-item.result c.in-len1-up.len_at_least c.word-item.is in
+    let rest : List Bytes = take (length c.args.words.now - 1) (drop 1 c.args.words.now) in
+    let named : command_named c.word-item.result ≡ Some Schedule = search rules in
+    let given : Gives (Some c.in_ok-seed.field-0) (settings_of (seen c.choices.result.items) rest) = search rules in
+    let choices : c.choices.result.items ≡ choices_of Schedule = c.choices.ensures ∙ ap choices_of c.in-Schedule.is in
+    let at_choices = subst (λ cs. Gives (Some c.in_ok-seed.field-0) (settings_of (seen cs) rest)) choices given in
+    schedule_of c.in_ok-seed.field-0 (settings_of (seen (choices_of Schedule)) rest) at_choices
+    ∙ sym (ap job_named words ∙ job_by_command c.word-item.result rest Schedule named)
 
 pub returns-in-Generate-clause-job : goal.returns-in-Generate-clause-job
 returns-in-Generate-clause-job c =

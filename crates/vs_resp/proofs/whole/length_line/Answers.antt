@@ -1,6 +1,7 @@
-use Rattle.std.proofs.Common.{◌-◌, length, take, drop, refl, arith}
+use Rattle.std.proofs.Common.{ℕ, ◌≤◌, ◌+◌, ◌-◌, length, take, drop, refl, arith, subst}
+use Rattle.vs_defs.specs.Limits.{max_message_bytes}
 use Rattle.std.proofs.lemmas.List.{take_rest}
-use Rattle.vs_resp.proofs.WholeBulks.{line_leads}
+use Rattle.vs_resp.proofs.WholeBulks.{line_leads, lone_leads, is_digit}
 use Rattle.vs_resp.proofs.whole.length_line.Goals as goal
 
 pub returns-clause-leads : goal.returns-clause-leads
@@ -8,3 +9,6 @@ returns-clause-leads c = λ l sum ws few. line_leads c.args.bytes.now (take (len
 
 pub returns-clause-within : goal.returns-clause-within
 returns-clause-within c = omega (arith, c.if-not-ends_line.ensures.within refl)
+
+pub returns-in-Some-clause-leads : goal.returns-in-Some-clause-leads
+returns-in-Some-clause-leads c = λ l sum ws few. rw c.from.ensures (lone_leads c.args.bytes.now c.in-Some.digit l sum ws c.in-Some.ensures.line (is_digit c.in-Some.digit c.in-Some.ensures.digit.0 c.in-Some.ensures.digit.1) c.in-Some.ensures.digit.1 (subst (λ (n : ℕ). sum + n ≤ max_message_bytes) c.from.ensures few))

@@ -1,5 +1,6 @@
 use Rattle.std.proofs.Common.{[], ◌∙◌, subst}
 use Rattle.vs_defs.specs.Store.{Limits}
+use Rattle.std.proofs.lemmas.List.Elements.{All-nil}
 use Rattle.vs_history.proofs.Beginnings.{prefix_self}
 use Rattle.vs_server.specs.Chains.{Serves}
 use Rattle.vs_server.specs.Ended.{IsServed}
@@ -12,4 +13,4 @@ returns-in-Ok-clause-served g c =
     (c.in-Ok.ensures ∙ c.usual.ensures) c.serve_named.ensures.served
 
 pub returns-in-Err-clause-served : goal.returns-in-Err-clause-served
-returns-in-Err-clause-served g c = record { log = []; legal = tt; each = served_same _ _ _ _ _ _ _ (λ k. prefix_self []) }
+returns-in-Err-clause-served g c = record { log = []; legal = tt; good = All-nil _; each = served_same _ _ _ _ _ _ _ (λ k. prefix_self []) }

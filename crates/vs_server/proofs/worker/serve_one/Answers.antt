@@ -22,6 +22,7 @@ returns-in-Link-clause-chained g c =
       nothing = served.ensures.end;
       read_fault = served.ensures.read_fault;
       write_fault = served.ensures.write_fault;
+      complete = served.ensures.complete;
     })
 
 pub returns-in-Failed-clause-chained : goal.returns-in-Failed-clause-chained

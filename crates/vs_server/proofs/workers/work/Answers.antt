@@ -68,6 +68,6 @@ returns g c =
     (Serves g.L.Input.Source.left g.L.Input.Source.faults g.L.Output.Sink.written g.L.Output.Sink.faults g.N.TableName.limits) c.args.limit in
     ended (λ (h : W). h.listener) (λ (h : W). h.ticket.me) (λ (h : W). h.has_failed) (λ (h : W). h.pass.number) (λ (h : W). point_of h.pass) (λ v. g.L.Listener.given v) (λ v. g.L.Listener.closed v) (λ v. g.L.Listener.faults v)
     (Serves g.L.Input.Source.left g.L.Input.Source.faults g.L.Output.Sink.written g.L.Output.Sink.faults g.N.TableName.limits) c.args.limit g.N.TableName.limits c.args.seed
-    c.args.listeners.now.items c.give_back-drawn.new.listeners.items c.deal_all.new.workers.items _ c.give_back-drawn.result.0 (seen_by c.give_back-drawn.result.1) c.end_last.ensures (ap length whole ∙ same)
+    c.args.listeners.now.items c.give_back-drawn.new.listeners.items c.deal_all.new.workers.items _ c.give_back-drawn.result.0 (seen_by c.give_back-drawn.result.1) c.end_last.ensures.legal c.end_last.ensures.good (ap length whole ∙ same)
     (subst (λ l. AtEach went c.deal_all.new.workers.items l) (sym whole) (subst (λ l. AtEach went l c.run_all.new.workers) value (λ i d l. let one = c.run_all.ensures i d l in (one.1, one.2, one.3, one.4))))
     c.deal_all.ensures.workers.2 c.deal_all.ensures.workers.3 c.deal_all.ensures.workers.0 c.give_back-drawn.ensures.listeners c.give_back-drawn.ensures.below c.give_back-drawn.ensures.past c.requires.some.0 c.give_back-drawn.ensures.met

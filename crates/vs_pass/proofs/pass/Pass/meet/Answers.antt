@@ -3,7 +3,7 @@ use Rattle.vs_thread_defs.specs.Rule.{longer}
 use Rattle.vs_history.specs.Seats.{HistoryView}
 use Rattle.vs_history.proofs.Histories.{length-longer}
 use Rattle.vs_pass.specs.Knower.{Knower, Meets}
-use Rattle.vs_pass.proofs.Passes.{sees, meets}
+use Rattle.vs_pass.proofs.Passes.{sees, meets, good_of_longer}
 use Rattle.vs_pass.proofs.pass.Pass.meet.Goals as goal
 
 pub invariant_of-one : goal.invariant_of-one
@@ -14,7 +14,8 @@ invariant_of-one g c =
     let size = length-longer c.other.inside.seat.seen c.one.inside.seat.seen in
     let m = p.counts in
     let n = q.counts in
-    sees g.N.TableName.limits c.one.inside.number c.one.inside.known _ _ _ (longer c.other.inside.seat.seen c.one.inside.seat.seen) p c.meet.ensures.one c.meet.ensures.own_one c.meet.ensures.legal (omega (arith, known, size, m, n))
+    let good = good_of_longer c.one.inside.seat.seen c.other.inside.seat.seen c.meet.ensures.begins.0 c.meet.ensures.begins.1 p.good q.good in
+    sees g.N.TableName.limits c.one.inside.number c.one.inside.known _ _ _ (longer c.other.inside.seat.seen c.one.inside.seat.seen) p c.meet.ensures.one c.meet.ensures.own_one c.meet.ensures.legal good (omega (arith, known, size, m, n))
 
 pub invariant_of-other : goal.invariant_of-other
 invariant_of-other g c =
@@ -24,7 +25,8 @@ invariant_of-other g c =
     let size = length-longer c.other.inside.seat.seen c.one.inside.seat.seen in
     let m = p.counts in
     let n = q.counts in
-    sees g.N.TableName.limits c.other.inside.number c.other.inside.known _ _ _ (longer c.other.inside.seat.seen c.one.inside.seat.seen) q c.meet.ensures.other c.meet.ensures.own_other c.meet.ensures.legal (omega (arith, known, size, m, n))
+    let good = good_of_longer c.one.inside.seat.seen c.other.inside.seat.seen c.meet.ensures.begins.0 c.meet.ensures.begins.1 p.good q.good in
+    sees g.N.TableName.limits c.other.inside.number c.other.inside.known _ _ _ (longer c.other.inside.seat.seen c.one.inside.seat.seen) q c.meet.ensures.other c.meet.ensures.own_other c.meet.ensures.legal good (omega (arith, known, size, m, n))
 
 pub returns-clause-one : goal.returns-clause-one
 returns-clause-one g c =

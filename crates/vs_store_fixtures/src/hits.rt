@@ -1,7 +1,7 @@
 //! What a search answers, beside the plain list.
-use crate::keeping::attribute_of;
 use crate::links::{letter_of, rank_of};
 use crate::plain::Member;
+use crate::texts::attribute_of;
 use std::alloc::Global;
 use std::process::Abort;
 use vs_command::NamedHit;
@@ -16,7 +16,8 @@ pub struct Sought {
     pub attrs: bool,
 }
 
-fn find(members: &[Member], name: u8) -> Option<Member> {
+/// The member of a name.
+pub(crate) fn find(members: &[Member], name: u8) -> Option<Member> {
     for member in members {
         if member.name == name {
             return Some(*member);

@@ -36,7 +36,7 @@ fn show_signs(alloc: Global, signs: &[bool]) -> Result<String, NoMemory> {
 }
 
 /// Each hit with a blank before it: its name, its distance, and its attribute in brackets.
-pub fn show_hits(alloc: Global, hits: &[NamedHit]) -> Result<String, NoMemory> {
+fn show_hits(alloc: Global, hits: &[NamedHit]) -> Result<String, NoMemory> {
     let mut shown = String::new(alloc);
     for hit in hits {
         shown.push_str(" ")?;
