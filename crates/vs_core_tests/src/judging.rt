@@ -5,12 +5,12 @@ ghost use Rattle.vs_core.specs.Events.{FitsEvent};
 use crate::acts::Happening;
 use crate::answers::Wanted;
 use crate::events::events;
-use std::alloc::Global;
+use std::alloc::{AllocError, Global};
 use std::process::Abort;
 use vs_command::Answer;
 use vs_core::{Core, StepError, StepOutcome};
 use vs_outside::{List, NoMemory};
-use vs_store_fixtures::{Linked, check_hits, check_own_links, nearest_text, show};
+use vs_store_fixtures::{Fault, Linked, check_hits, check_own_links, nearest_text, show};
 
 /// What came of an event.
 type Outcome = Result<StepOutcome, StepError>;
@@ -20,6 +20,15 @@ type Outcome = Result<StepOutcome, StepError>;
 pub struct Script {
     pub happenings: List<Happening>,
     pub wanted: List<Wanted>,
+}
+
+/// Ends the test at a fault.
+pub fn settled(rt: &impl Abort, judged: Result<(), Fault>) -> Result<(), NoMemory> {
+    match judged {
+        Ok(()) => Ok(()),
+        Err(Fault::NoMemory) => Err(AllocError),
+        Err(fault) => panic!(rt; "{fault:?}"),
+    }
 }
 
 fn show_outcome(alloc: Global, outcome: Outcome) -> Result<String, NoMemory> {
@@ -77,7 +86,7 @@ fn judge(
             },
             outcome,
         ) => {
-            let text = nearest_text(rt, alloc, members.as_slice(), *sought)?;
+            let text = nearest_text(alloc, members.as_slice(), *sought)?;
             check_shown(rt, alloc, happening, outcome, text.as_str())?;
             Ok(None)
         }
@@ -89,7 +98,8 @@ fn judge(
             },
             Ok(StepOutcome::Answered(Answer::Hits { hits, .. })),
         ) => {
-            check_hits(rt, alloc, members.as_slice(), *sought, hits.as_slice())?;
+            let judged = check_hits(alloc, members.as_slice(), *sought, hits.as_slice());
+            settled(rt, judged)?;
             Ok(None)
         }
         (
@@ -100,7 +110,7 @@ fn judge(
                 member: *member,
                 layers,
             };
-            check_own_links(rt, members.as_slice(), &linked);
+            settled(rt, check_own_links(members.as_slice(), &linked))?;
             Ok(Some(linked))
         }
         _ => panic!(rt; "another answer: {happening:?}"),

@@ -4,7 +4,7 @@ ghost use Rattle.vs_store.specs.Seen.{limits_seen};
 
 use crate::acts::{Act, Ask, Happening};
 use crate::drawing::{draw, draw_addition};
-use crate::judging::{Script, play};
+use crate::judging::{Script, play, settled};
 use crate::reading::Reading;
 use std::alloc::Global;
 use std::process::Abort;
@@ -95,8 +95,7 @@ fn check_set(
     let graph = play(rt, alloc, core, &script)?;
     let members = reading.plain.members_of(key)?;
     assert_eq!(rt; graph.len(), members.len());
-    check_links(rt, members.as_slice(), graph.as_slice());
-    Ok(())
+    settled(rt, check_links(members.as_slice(), graph.as_slice()))
 }
 
 /// One list of events, and then all sets.

@@ -2,6 +2,7 @@
 //! store.
 #![tactic(auto)]
 
+mod fault;
 mod hits;
 mod links;
 mod picks;
@@ -11,6 +12,7 @@ mod refusals;
 mod shown;
 mod texts;
 
+pub use fault::Fault;
 pub use hits::{Sought, check_hits, nearest_text};
 pub use links::{Linked, check_links, check_own_links};
 pub use picks::{picked, picked_again};

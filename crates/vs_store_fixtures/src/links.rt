@@ -1,7 +1,7 @@
 //! Whether links are those of a good graph, by what VLINKS tells of them.
+use crate::fault::{Fault, ensure};
 use crate::hits::find;
 use crate::plain::Member;
-use std::process::Abort;
 use vs_command::NamedHit;
 use vs_outside::List;
 
@@ -45,10 +45,10 @@ fn has_company(members: &[Member], name: u8, layer: u8) -> bool {
 }
 
 /// The only letter of a name.
-pub fn letter_of(rt: &impl Abort, name: &[u8]) -> u8 {
+pub fn letter_of(name: &[u8]) -> Result<u8, Fault> {
     match name {
-        [letter] => *letter,
-        _ => panic!(rt; "a name that isn't a letter"),
+        [letter] => Ok(*letter),
+        _ => Err(Fault::LongName),
     }
 }
 
@@ -57,71 +57,84 @@ pub fn rank_of(dist: u32, name: u8) -> u64 {
     (u64::from(dist) << 8) | u64::from(name)
 }
 
-/// Each link is to another member that is at the layer, tells the true distance, and comes after the one before it.
-fn check_hits(rt: &impl Abort, members: &[Member], one: &Linked, layer: u8) {
-    let mut before = None;
-    for hit in one.at(layer) {
-        let name = letter_of(rt, hit.name.as_slice());
-        let Some(other) = find(members, name) else {
-            panic!(rt; "a link to nobody");
-        };
-        assert!(rt; name != one.member.name, "a link to itself");
-        assert!(rt; layer <= other.level, "a link above a level");
-        assert_eq!(rt; hit.dist, one.member.distance(other.vector));
-        let rank = Some(rank_of(hit.dist, name));
-        assert!(rt; before < rank, "links out of order");
-        before = rank;
-    }
+/// Judges a link of a layer; its rank.
+fn check_link(
+    members: &[Member],
+    member: &Member,
+    layer: u8,
+    hit: &NamedHit,
+) -> Result<u64, Fault> {
+    let name = letter_of(hit.name.as_slice())?;
+    let other = find(members, name).ok_or(Fault::NoMember)?;
+    ensure(name != member.name, Fault::LinkToItself)?;
+    ensure(layer <= other.level, Fault::LinkAboveLevel)?;
+    let same = hit.dist == member.distance(other.vector);
+    ensure(same, Fault::WrongDistance)?;
+    Ok(rank_of(hit.dist, name))
 }
 
-fn check_layer(rt: &impl Abort, members: &[Member], one: &Linked, layer: u8) {
+/// Each link is to another member that is at the layer, tells the true distance, and comes after the one before it.
+fn check_links_at(members: &[Member], one: &Linked, layer: u8) -> Result<(), Fault> {
+    let mut before = None;
+    for hit in one.at(layer) {
+        let rank = Some(check_link(members, &one.member, layer, hit)?);
+        ensure(before < rank, Fault::OutOfOrder)?;
+        before = rank;
+    }
+    Ok(())
+}
+
+fn check_layer(members: &[Member], one: &Linked, layer: u8) -> Result<(), Fault> {
     let m = one.member.m as usize;
     let most = if layer == 0 { 2 * m } else { m };
     let count = one.at(layer).len();
-    assert!(rt; count <= most, "{count} links");
-    assert!(rt;
-        count > 0 || !has_company(members, one.member.name, layer),
-        "a member alone"
-    );
-    check_hits(rt, members, one, layer);
+    ensure(count <= most, Fault::TooManyLinks)?;
+    let some = count > 0 || !has_company(members, one.member.name, layer);
+    ensure(some, Fault::Alone)?;
+    check_links_at(members, one, layer)
 }
 
 /// The links of one member, among the members of its set: at most 2M and M to members that are at the layer, and one at least where another
 /// is there.
-pub fn check_own_links(rt: &impl Abort, members: &[Member], one: &Linked) {
-    assert_eq!(rt; one.layers.len(), one.member.level as usize + 1);
+pub fn check_own_links(members: &[Member], one: &Linked) -> Result<(), Fault> {
+    let whole = one.layers.len() == one.member.level as usize + 1;
+    ensure(whole, Fault::WrongLayers)?;
     for layer in 0..=one.member.level {
-        check_layer(rt, members, one, layer);
+        check_layer(members, one, layer)?;
     }
+    Ok(())
 }
 
-fn find_linked<'a>(rt: &impl Abort, graph: &'a [Linked], name: u8) -> &'a Linked {
+fn find_linked(graph: &[Linked], name: u8) -> Result<&Linked, Fault> {
     for one in graph {
         if one.member.name == name {
-            return one;
+            return Ok(one);
         }
     }
-    panic!(rt; "a link to nobody")
+    Err(Fault::NoMember)
 }
 
 /// Each link is there from its other end.
-fn check_other_ends(rt: &impl Abort, graph: &[Linked], one: &Linked, layer: u8) {
+fn check_other_ends(graph: &[Linked], one: &Linked, layer: u8) -> Result<(), Fault> {
     for hit in one.at(layer) {
-        let other = find_linked(rt, graph, letter_of(rt, hit.name.as_slice()));
-        assert!(rt; other.has(layer, one.member.name), "a link one way");
+        let other = find_linked(graph, letter_of(hit.name.as_slice())?)?;
+        ensure(other.has(layer, one.member.name), Fault::OneWay)?;
     }
+    Ok(())
 }
 
-fn check_both_ends(rt: &impl Abort, graph: &[Linked], one: &Linked) {
+fn check_both_ends(graph: &[Linked], one: &Linked) -> Result<(), Fault> {
     for layer in 0..=one.member.level {
-        check_other_ends(rt, graph, one, layer);
+        check_other_ends(graph, one, layer)?;
     }
+    Ok(())
 }
 
 /// The links of all members of a set are those of a good graph.
-pub fn check_links(rt: &impl Abort, members: &[Member], graph: &[Linked]) {
+pub fn check_links(members: &[Member], graph: &[Linked]) -> Result<(), Fault> {
     for one in graph {
-        check_own_links(rt, members, one);
-        check_both_ends(rt, graph, one);
+        check_own_links(members, one)?;
+        check_both_ends(graph, one)?;
     }
+    Ok(())
 }

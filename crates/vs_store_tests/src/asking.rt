@@ -10,7 +10,7 @@ use vs_command::{Answer, Refusal, draws, read_request};
 use vs_outside::{List, NoMemory, Text};
 use vs_slot::Slot;
 use vs_store::{Limits, Store};
-use vs_store_fixtures::show;
+use vs_store_fixtures::{Fault, show};
 
 /// A store, with what its searches take.
 #[derive(Drop)]
@@ -76,4 +76,13 @@ pub fn check(
     let shown = show(asked.alloc, &outcome)?;
     assert_eq!(rt; shown.as_str(), wanted, "{line}");
     Ok(())
+}
+
+/// Ends the test at a fault.
+pub fn settled(rt: &impl Abort, judged: Result<(), Fault>) -> Result<(), NoMemory> {
+    match judged {
+        Ok(()) => Ok(()),
+        Err(Fault::NoMemory) => Err(AllocError),
+        Err(fault) => panic!(rt; "{fault:?}"),
+    }
 }

@@ -1,5 +1,5 @@
 //! Whether the graph of a set is good, by what VLINKS tells of it.
-use crate::asking::{Asked, outcome_of};
+use crate::asking::{Asked, outcome_of, settled};
 use std::process::Abort;
 use vs_command::Answer;
 use vs_outside::{List, NoMemory};
@@ -31,6 +31,5 @@ pub fn check_graph(
     for member in members.as_slice() {
         graph.push(with_links(rt, asked, member)?)?;
     }
-    check_links(rt, members.as_slice(), graph.as_slice());
-    Ok(())
+    settled(rt, check_links(members.as_slice(), graph.as_slice()))
 }

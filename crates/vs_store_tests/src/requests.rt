@@ -3,7 +3,7 @@ ghost use Rattle.std.specs.Prelude.{◌<◌, IfOk};
 ghost use Rattle.vs_store.specs.Kept.{AreUsual};
 ghost use Rattle.vs_store.specs.Seen.{limits_seen};
 
-use crate::asking::{Asked, check, outcome_of};
+use crate::asking::{Asked, check, outcome_of, settled};
 use std::alloc::Global;
 use std::process::Abort;
 use vs_command::{Answer, level_of_word};
@@ -345,12 +345,13 @@ fn check_search(
 ) -> Result<(), NoMemory> {
     let alloc = trial.asked.alloc;
     let members = trial.plain.members_of(key)?;
-    let wanted = nearest_text(rt, alloc, members.as_slice(), sought)?;
+    let wanted = nearest_text(alloc, members.as_slice(), sought)?;
     let truth = format!(in alloc; "{line} TRUTH")?;
     check(rt, &mut trial.asked, truth.as_str(), &[], wanted.as_str())?;
     match outcome_of(rt, &mut trial.asked, line, &[])? {
         Ok(Answer::Hits { hits, .. }) => {
-            check_hits(rt, alloc, members.as_slice(), sought, hits.as_slice())
+            let judged = check_hits(alloc, members.as_slice(), sought, hits.as_slice());
+            settled(rt, judged)
         }
         _ => panic!(rt; "no hits: {line}"),
     }
