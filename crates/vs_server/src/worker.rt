@@ -9,6 +9,7 @@ ghost use Rattle.vs_server.specs.Counts.{Counted, IsFresh, HasRun};
 
 use std::alloc::Global;
 use std::sync::Wait;
+use std::thread::Threads;
 use vs_history::TableName;
 use vs_outside::{Accepted, Gate, Listener};
 use vs_pass::Pass;
@@ -26,7 +27,7 @@ pub(crate) struct Worker<N: TableName, L: Listener> {
 
 // Serves one link, and says whether one was given.
 #[tactic(auto, using(crate::proofs::Chaining::chained_one, crate::proofs::Chaining::may_close))]
-fn serve_one<N: TableName, L: Listener, R: Wait, G: Gate>(
+fn serve_one<N: TableName, L: Listener, R: Threads + Wait + Sync, G: Gate>(
     rt: &R,
     alloc: Global,
     shared: &Shared<N>,
@@ -52,7 +53,7 @@ fn serve_one<N: TableName, L: Listener, R: Wait, G: Gate>(
 impl<N: TableName, L: Listener> Worker<N, L> {
     /// Serves links while tickets below the limit are left and the listener gives links.
     #[tactic(auto, using(crate::proofs::Counting::counted_none, crate::proofs::Counting::counted_more))]
-    pub(crate) fn run<R: Wait, G: Gate>(
+    pub(crate) fn run<R: Threads + Wait + Sync, G: Gate>(
         &mut self,
         rt: &R,
         alloc: Global,

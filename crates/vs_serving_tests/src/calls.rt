@@ -7,6 +7,7 @@ ghost use Rattle.vs_command.specs.Requests.{request_of};
 use std::alloc::Global;
 use std::process::Abort;
 use std::sync::Wait;
+use std::thread::Threads;
 use vs_command::{Answer, Refusal, Request, read_request};
 use vs_history::TableName;
 use vs_outside::{List, NoGate, NoMemory, Text};
@@ -37,7 +38,7 @@ fn request(rt: &impl Abort, alloc: Global, line: &str) -> Result<Request, NoMemo
 }
 
 /// What a pass is answered to a line.
-pub fn answered<N: TableName, R: Wait + Abort>(
+pub fn answered<N: TableName, R: Threads + Wait + Abort + Sync>(
     rt: &R,
     alloc: Global,
     shared: &Shared<N>,

@@ -4,6 +4,7 @@ use std::alloc::Global;
 use std::process::Abort;
 use std::sync::Wait;
 use std::test::*;
+use std::thread::Threads;
 use vs_command::{Answer, Info, NamedHit};
 use vs_history::TableName;
 use vs_outside::{List, Text};
@@ -20,7 +21,7 @@ fn vector_of(signs: &[bool]) -> u32 {
 }
 
 // The member of this name with its links, as the pass is told.
-fn linked<N: TableName, R: Wait + Abort>(
+fn linked<N: TableName, R: Threads + Wait + Abort + Sync>(
     rt: &R,
     alloc: Global,
     shared: &Shared<N>,
@@ -54,7 +55,7 @@ fn linked<N: TableName, R: Wait + Abort>(
 }
 
 // The names of a set's members, none where there is no set.
-fn names_of<N: TableName, R: Wait + Abort>(
+fn names_of<N: TableName, R: Threads + Wait + Abort + Sync>(
     rt: &R,
     alloc: Global,
     shared: &Shared<N>,
@@ -69,7 +70,7 @@ fn names_of<N: TableName, R: Wait + Abort>(
 }
 
 /// The links of a set are those of a good graph, and VINFO tells its size and its greatest level.
-pub fn check_graph<N: TableName, R: Wait + Abort>(
+pub fn check_graph<N: TableName, R: Threads + Wait + Abort + Sync>(
     rt: &R,
     alloc: Global,
     shared: &Shared<N>,

@@ -7,6 +7,7 @@ use std::marker::Brand;
 use std::process::Abort;
 use std::sync::Wait;
 use std::test::*;
+use std::thread::Threads;
 use vs_connection::SessionEnd;
 use vs_history::TableName;
 use vs_outside::{NoGate, Sink, Source};
@@ -18,13 +19,17 @@ use vs_store::Limits;
 
 // A pass over a shared store, and what waits for its lock.
 #[derive(Drop)]
-struct Served<'a, N: TableName, R: Wait> {
+struct Served<'a, N: TableName, R> {
     rt: &'a R,
     shared: &'a Shared<N>,
     pass: Pass<N>,
 }
 
-impl<N: TableName, R: Wait> Serve for Served<'_, N, R> {
+impl<'a, N: TableName, R: Threads + Wait + Sync> Serve for Served<'a, N, R> {
+    ghost use Rattle.std.specs.Thread.{IsSync};
+
+    ghost ready = { λ _. IsSync R.row };
+
     fn serve<S: Source, K: Sink>(
         &mut self,
         alloc: Global,
@@ -54,7 +59,7 @@ fn a_client_that_waits_for_each_reply_is_served(rt: HostRuntime) -> Result<(), F
     Ok(())
 }
 
-fn conversed<N: TableName, R: Wait + Abort>(
+fn conversed<N: TableName, R: Threads + Wait + Abort + Sync>(
     rt: &R,
     alloc: Global,
     opened: Opened,

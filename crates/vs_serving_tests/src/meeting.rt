@@ -7,6 +7,7 @@ use std::marker::Brand;
 use std::process::Abort;
 use std::sync::Wait;
 use std::test::*;
+use std::thread::Threads;
 use vs_command::Answer;
 use vs_history::TableName;
 use vs_pass::Pass;
@@ -14,7 +15,7 @@ use vs_shared::{Opened, Shared};
 use vs_store::Limits;
 
 // Whether the line is answered with this number.
-fn is_answered_with<N: TableName, R: Wait + Abort>(
+fn is_answered_with<N: TableName, R: Threads + Wait + Abort + Sync>(
     rt: &R,
     alloc: Global,
     shared: &Shared<N>,
@@ -34,7 +35,11 @@ fn a_pass_sees_what_another_changed(rt: HostRuntime) -> Result<(), Fail> {
     met::<Brand, _>(&rt, rt.alloc(), opened)
 }
 
-fn met<N: TableName, R: Wait + Abort>(rt: &R, alloc: Global, opened: Opened) -> Result<(), Fail>
+fn met<N: TableName, R: Threads + Wait + Abort + Sync>(
+    rt: &R,
+    alloc: Global,
+    opened: Opened,
+) -> Result<(), Fail>
     requires { opened ≡ record { table = N.table; limits = N.limits } }
 {
     let (shared, mut passes) = opened.named::<N>(alloc, 1, 1, 2)?;

@@ -52,7 +52,7 @@ struct Author<N: TableName> {
 }
 
 // Whether the request that the pass's next word chooses was an accepted change.
-fn is_changed<N: TableName, R: Wait + Abort>(
+fn is_changed<N: TableName, R: Threads + Wait + Abort + Sync>(
     rt: &R,
     alloc: Global,
     shared: &Shared<N>,

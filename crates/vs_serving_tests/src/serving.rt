@@ -2,6 +2,7 @@
 use std::alloc::Global;
 use std::process::Abort;
 use std::sync::Wait;
+use std::thread::Threads;
 use vs_connection::SessionEnd;
 use vs_history::TableName;
 use vs_outside::{Gate, List, MemSink, MemSource, NoMemory, Text};
@@ -10,7 +11,7 @@ use vs_session::serve_connection;
 use vs_shared::Shared;
 
 /// What is written for an input that ends after a whole message.
-pub fn written<N: TableName, R: Wait + Abort, G: Gate>(
+pub fn written<N: TableName, R: Threads + Wait + Abort + Sync, G: Gate>(
     rt: &R,
     alloc: Global,
     shared: &Shared<N>,
@@ -26,7 +27,7 @@ pub fn written<N: TableName, R: Wait + Abort, G: Gate>(
 }
 
 /// Whether these lines are answered so.
-pub fn is_answered<N: TableName, R: Wait + Abort, G: Gate>(
+pub fn is_answered<N: TableName, R: Threads + Wait + Abort + Sync, G: Gate>(
     rt: &R,
     alloc: Global,
     shared: &Shared<N>,

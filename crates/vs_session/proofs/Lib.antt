@@ -6,3 +6,4 @@ pub mod Mapped
 pub mod Memory
 pub mod Passing
 pub mod Serving
+pub mod Sharing

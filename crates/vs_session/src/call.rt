@@ -16,10 +16,12 @@ ghost use Rattle.vs_shared.specs.Calls.{IsDoneAtOnce, HasCas};
 ghost use Rattle.vs_store.specs.Drafts.{IsPrepared};
 ghost use Rattle.vs_session.specs.Shared.{CallsShared, IsApart};
 
+use crate::finishing::Finishing;
 use std::alloc::Global;
 use std::marker::Brand;
 use std::sync::Wait;
 use std::sync::ledger::{Blank, Ledger};
+use std::thread::Threads;
 use vs_command::{Answer, Refusal, Request, Search, draws};
 use vs_graph::Steps;
 use vs_history::TableName;
@@ -139,8 +141,8 @@ fn finish<L: Ledger>(looked: Looked, slot: &mut Slot, blank: Blank) -> Result<An
     Store::finish(looked, slot, &mut reads)
 }
 
-// A search whose beams run without the lock.
-fn call_search<N: TableName, R: Wait, G: Gate>(
+// A search that runs without the lock: by beams, or with TRUTH as the finishing does it.
+fn call_search<N: TableName, R: Wait + Finishing, G: Gate>(
     rt: &R,
     shared: &Shared<N>,
     pass: &mut Pass<N>,
@@ -148,6 +150,7 @@ fn call_search<N: TableName, R: Wait, G: Gate>(
     slot: &mut Slot,
     gate: &G,
 ) -> Result<Answer, Refusal>
+    requires ready { R.ready rt.now }
     requires bounds { IsSearchInBounds (search_of search.now) }
     ensures call { GraphCall N.limits pass.old.number pass.old.seen (requests.Vsim (search_of search.now)) [] (outcome_of result) pass.new.seen }
     ensures scores { IfOk result HasScores }
@@ -156,6 +159,9 @@ fn call_search<N: TableName, R: Wait, G: Gate>(
 {
     let looked = shared.look(rt, pass, search)?;
     gate.at(Place::Looked);
+    if search.truth {
+        return Ok(rt.finish(looked)?);
+    }
     Ok(finish::<Brand>(looked, slot, Blank::new(1))?)
 }
 
@@ -204,7 +210,7 @@ fn call_addition<N: TableName, R: Wait, G: Gate>(
 }
 
 // A request with its drawn words, in a slot.
-fn call_in<N: TableName, R: Wait, G: Gate>(
+fn call_in<N: TableName, R: Wait + Finishing, G: Gate>(
     rt: &R,
     shared: &Shared<N>,
     pass: &mut Pass<N>,
@@ -213,6 +219,7 @@ fn call_in<N: TableName, R: Wait, G: Gate>(
     slot: &mut Slot,
     gate: &G,
 ) -> Result<Answer, Refusal>
+    requires ready { R.ready rt.now }
     requires bounds { IsInBounds (request_of request.now) }
     requires words { length words.now ≡ draws_of (request_of request.now) }
     ensures call { GraphCall N.limits pass.old.number pass.old.seen (request_of request.now) words.now (outcome_of result) pass.new.seen }
@@ -239,9 +246,8 @@ fn starved<N: TableName>(pass: &Pass<N>) -> Refusal
     Refusal::NoMemory
 }
 
-/// Carries a request of a pass out, with the next words of the pass's stream, and in a slot of the pool. The gate is called with no lock held.
-/// The six requests that need no memory draw no words and take no slot of the pool. A refusal changes nothing.
-pub fn call_shared<N: TableName, R: Wait, G: Gate>(
+// The same as `call_shared`, with searches with TRUTH as the finishing does them.
+pub(crate) fn call_by<N: TableName, R: Wait + Finishing, G: Gate>(
     rt: &R,
     alloc: Global,
     shared: &Shared<N>,
@@ -249,6 +255,7 @@ pub fn call_shared<N: TableName, R: Wait, G: Gate>(
     request: &Request,
     gate: &G,
 ) -> Result<Answer, Refusal>
+    requires ready { R.ready rt.now }
     requires bounds { IsInBounds (request_of request.now) }
     ensures call { CallsShared N.limits pass.old (request_of request.now) (outcome_of result) pass.new }
     ensures scores { IfOk result HasScores }
@@ -267,4 +274,24 @@ pub fn call_shared<N: TableName, R: Wait, G: Gate>(
     let outcome = call_in(rt, shared, pass, request, words.as_slice(), &mut slot, gate);
     shared.give_slot(rt, slot);
     outcome
+}
+
+/// Carries a request of a pass out, with the next words of the pass's stream, and in a slot of the pool. The gate is called with no lock held.
+/// The six requests that need no memory draw no words and take no slot of the pool. A search with TRUTH of a set with many members is shared by
+/// several threads. A refusal changes nothing.
+#[tactic(auto, using(crate::proofs::Sharing::sharable))]
+pub fn call_shared<N: TableName, R: Threads + Wait + Sync, G: Gate>(
+    rt: &R,
+    alloc: Global,
+    shared: &Shared<N>,
+    pass: &mut Pass<N>,
+    request: &Request,
+    gate: &G,
+) -> Result<Answer, Refusal>
+    requires bounds { IsInBounds (request_of request.now) }
+    ensures call { CallsShared N.limits pass.old (request_of request.now) (outcome_of result) pass.new }
+    ensures scores { IfOk result HasScores }
+    ensures memory { needs_no_memory (request_of request.now) ≡ true → result ≢ Err Refusal.NoMemory }
+{
+    call_by(rt, alloc, shared, pass, request, gate)
 }

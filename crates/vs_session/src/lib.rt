@@ -3,6 +3,7 @@
 
 mod alone;
 mod call;
+mod finishing;
 mod machine;
 mod replies;
 mod server;

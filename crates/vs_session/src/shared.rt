@@ -1,5 +1,6 @@
 //! A connection over a shared store, by a pass: each message is one call of the pass, and its reply is written before the next.
 ghost use Rattle.std.specs.Prelude.{◌≡◌, ◌<◌, ◌≤◌, ◌⊎◌, ◌↔◌, None, All, ℕ, List, length, IfOk};
+ghost use mathlib.Core.HProp.{IsProp-prop};
 ghost use Rattle.rand_pcg.specs.Lcg.{Lcg};
 ghost use Rattle.vs_defs.specs.Bytes.{Bytes};
 ghost use Rattle.vs_defs.specs.Stream.{Message};
@@ -13,10 +14,12 @@ ghost use Rattle.vs_connection.specs.Complete.{HasWhole, IsComplete};
 ghost use Rattle.vs_outside.specs.Known.{Adds, in_front, NothingLeft};
 ghost use Rattle.vs_session.specs.Shared.{Lent, lent_call, IsAt, point_of, ServesPass};
 
-use crate::call::call_shared;
+use crate::call::call_by;
+use crate::finishing::Finishing;
 use crate::replies::Replies;
 use std::alloc::Global;
 use std::sync::Wait;
+use std::thread::Threads;
 use vs_command::{Answer, Refusal, read_request};
 use vs_connection::{Handler, Replied, SessionEnd, serve_by};
 use vs_history::TableName;
@@ -26,16 +29,18 @@ use vs_shared::Shared;
 
 // What a connection's messages are carried out with. It owns no memory, so that its caller knows what it leaves behind each reference.
 #[derive(Drop)]
-struct SharedServer<'a, N: TableName, R, G> {
+struct SharedServer<'a, N: TableName, R: Finishing, G> {
     rt: &'a R,
     alloc: Global,
     shared: &'a Shared<N>,
     pass: &'a mut Pass<N>,
     gate: &'a G,
     replies: &'a mut Replies,
+    ghost single: { IsProp (R.ready rt.now) } by { IsProp-prop },
+    ghost ready: { R.ready rt.now } by { single },
 }
 
-impl<'a, N: TableName, R: Wait, G: Gate> SharedServer<'a, N, R, G> {
+impl<'a, N: TableName, R: Wait + Finishing, G: Gate> SharedServer<'a, N, R, G> {
     // Reads a request and carries it out.
     fn carry_out(&mut self, message: &[Text]) -> Result<Answer, Refusal>
         requires some { 0 < length message.now }
@@ -48,7 +53,7 @@ impl<'a, N: TableName, R: Wait, G: Gate> SharedServer<'a, N, R, G> {
         ensures scores { IfOk result HasScores }
     {
         let request = read_request(self.alloc, message)?;
-        call_shared(
+        call_by(
             self.rt,
             self.alloc,
             self.shared,
@@ -59,7 +64,7 @@ impl<'a, N: TableName, R: Wait, G: Gate> SharedServer<'a, N, R, G> {
     }
 }
 
-impl<'a, N: TableName, R: Wait, G: Gate> Handler for SharedServer<'a, N, R, G> {
+impl<'a, N: TableName, R: Wait + Finishing, G: Gate> Handler for SharedServer<'a, N, R, G> {
     ghost use Rattle.vs_session.specs.Shared.{Lent, lent_call, IsAt};
 
     ghost Known = { Lent };
@@ -79,7 +84,7 @@ impl<'a, N: TableName, R: Wait, G: Gate> Handler for SharedServer<'a, N, R, G> {
 /// bounded links between members that are there.
 ///
 /// As of `serve_by`, no clause says when it reads: each message is answered, and its reply written whole, before it reads or answers more.
-pub fn serve_connection<N: TableName, R: Wait, S: Source, K: Sink, G: Gate>(
+pub fn serve_connection<N: TableName, R: Threads + Wait + Sync, S: Source, K: Sink, G: Gate>(
     rt: &R,
     alloc: Global,
     shared: &Shared<N>,

@@ -11,12 +11,16 @@ use vs_outside::{List, NoMemory, Put, Sink, Source, Text, Took};
 
 /// What serves a connection between two ends.
 pub trait Serve {
+    /// What it needs of its caller.
+    ghost ready: { Self → Type 0 };
+
     fn serve<S: Source, K: Sink>(
         &mut self,
         alloc: Global,
         source: &mut S,
         sink: &mut K,
-    ) -> SessionEnd;
+    ) -> SessionEnd
+        requires { ready self.old };
 }
 
 /// One message and its reply; none for a message that isn't answered.
@@ -222,7 +226,9 @@ pub fn converses<C: Serve>(
     server: &mut C,
     conversation: Conversation,
     pieces: Pieces,
-) -> Result<bool, NoMemory> {
+) -> Result<bool, NoMemory>
+    requires { C.ready server.old }
+{
     let (exchanges, end) = conversation;
     let turns = match pieces {
         Pieces::Messages(many) => by_messages(alloc, exchanges, many)?,

@@ -10,6 +10,8 @@ use vs_session::serve_alone;
 struct Alone;
 
 impl Serve for Alone {
+    ghost ready = { λ _. Unit {0} };
+
     fn serve<S: Source, K: Sink>(
         &mut self,
         alloc: Global,

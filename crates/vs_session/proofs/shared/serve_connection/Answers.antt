@@ -4,7 +4,11 @@ use Rattle.vs_pass.specs.Knower.{Knower}
 use Rattle.vs_connection.proofs.Complete.{complete}
 use Rattle.vs_session.specs.Shared.{point_of, ServesPass}
 use Rattle.vs_session.proofs.Lending.{lent_point, loan_stays, serves_pass}
+use Rattle.vs_session.proofs.Sharing.{one_keyless}
 use Rattle.vs_session.proofs.shared.serve_connection.Goals as goal
+
+pub invariant_of-server : goal.invariant_of-server
+invariant_of-server g c = record { single = λ x y i a b o κ. one_keyless (g.row.R.shr_at a b o κ) (x a b o κ) (y a b o κ) i; ready = c.type_bounds.sync-R.shared }
 
 pub returns-clause-session : goal.returns-clause-session
 returns-clause-session g c =

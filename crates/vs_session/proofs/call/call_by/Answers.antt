@@ -4,7 +4,7 @@ use Rattle.vs_defs.specs.Read.{draws as draws_of}
 use Rattle.vs_session_defs.specs.Words.{drawn, after_draws}
 use Rattle.vs_session.proofs.Passing.{unworded, unslotted}
 use Rattle.vs_session.proofs.Serving.{length_drawn}
-use Rattle.vs_session.proofs.call.call_shared.Goals as goal
+use Rattle.vs_session.proofs.call.call_by.Goals as goal
 
 pub returns-in_default-clause-call : goal.returns-in_default-clause-call
 returns-in_default-clause-call g c =
