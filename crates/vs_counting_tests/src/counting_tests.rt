@@ -1,20 +1,18 @@
 //! How many nodes a search and a commit of a set look at, told by the nodes themselves: no more than a descent and a beam, or a commit,
 //! look at in a graph of the same members, whose own bounds are proved and tested below. Each of these is far less than the number of
 //! members, so a scan is seen whatever counter it is told to.
-ghost use Rattle.std.specs.Prelude.{◌≡◌, ◌<◌, length};
+ghost use Rattle.std.specs.Prelude.{◌≡◌, ◌<◌};
 
 use super::*;
 use std::alloc::Global;
 use std::marker::Brand;
 use std::process::Abort;
 use std::sync::ledger::{Blank, Ledger};
-use vs_beam::{beam, descend};
 use vs_bits::Bits;
 use vs_graph::{FreshNodes, Graph, InlineBody, Nodes, Steps};
 use vs_graph_fixtures::{Counted, word_at};
 use vs_insert_tests::{NewMember, add, bits_of, draft_of, member, settle};
 use vs_outside::NoMemory;
-use vs_rank::Wanted;
 use vs_set::Set;
 use vs_slot::Slot;
 
@@ -43,11 +41,14 @@ fn add_both<A: Abort, L: Ledger>(
     let name = number.to_be_bytes();
     let one = numbered(&name, number);
     assert!(rt; add_to(alloc, set, one, slot)?, "to the set: {number}");
-    assert!(rt; add(alloc, graph, one, slot, reads)?, "to the graph: {number}");
+    assert!(rt;
+        add(alloc, graph, one, slot, reads)?,
+        "to the graph: {number}"
+    );
     Ok(())
 }
 
-/// How many nodes a descent and a beam of width 10 look at in a graph.
+/// How many nodes a search of a graph looks at.
 fn looks_of_search<A: Abort, L: Ledger>(
     rt: &A,
     alloc: Global,
@@ -55,18 +56,10 @@ fn looks_of_search<A: Abort, L: Ledger>(
     bits: &Bits,
     slot: &mut Slot,
     reads: &mut Steps<L>,
-) -> Result<u64, NoMemory>
-    requires { length bits.now ≡ graph.now.dim }
-{
+) -> Result<u64, NoMemory> {
     let before = graph.nodes().gets();
-    let words = bits.words();
-    let Some(descent) = descend(graph, words, 1, reads) else {
-        panic!(rt; "the graph is empty");
-    };
-    let wanted = Wanted::new(|_attr: Option<&[u8]>| true);
-    let _beam = beam(
-        alloc, graph, 0, descent.start, words, 10, 0, &wanted, slot, reads,
-    )?;
+    let found = search_graph(alloc, graph, bits, slot, reads)?;
+    assert!(rt; found.is_some());
     Ok(graph.nodes().gets().wrapping_sub(before))
 }
 
@@ -145,7 +138,7 @@ fn search_both<A: Abort, L: Ledger>(
     let snap = set.snapshot()?;
     for number in 0..10 {
         let bits = bits_of(alloc, 20, word_at(1_000 + number))?;
-        let Some(hits) = nearest_to(&snap, &bits, slot, reads)? else {
+        let Some(hits) = search_snap(&snap, &bits, slot, reads)? else {
             panic!(rt; "nothing is searched");
         };
         assert_eq!(rt; hits.len(), 10);

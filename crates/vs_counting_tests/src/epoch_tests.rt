@@ -33,7 +33,10 @@ fn assert_same<A: Abort>(rt: &A, one: &[Key], other: &[Key], epoch: u32) {
     assert_eq!(rt; one.len(), 10);
     assert_eq!(rt; other.len(), 10);
     for (key, again) in one.iter().zip(other) {
-        assert!(rt; key.id == again.id && key.dist == again.dist, "from epoch {epoch}");
+        assert!(rt;
+            key.id == again.id && key.dist == again.dist,
+            "from epoch {epoch}"
+        );
     }
 }
 

@@ -1,15 +1,12 @@
-//! Sets that are grown member by member, and searched.
+//! Sets that are grown member by member.
 use std::alloc::Global;
-use std::sync::ledger::Ledger;
-use vs_bits::{Add, Bits};
-use vs_graph::{Nodes, Steps};
+use vs_bits::Add;
+use vs_graph::Nodes;
 use vs_graph_fixtures::word_at;
 use vs_insert_tests::{NewMember, bits_of, member};
-use vs_outside::{List, NoMemory, Text};
-use vs_rank::Wanted;
-use vs_set::{Set, Snap};
+use vs_outside::{NoMemory, Text};
+use vs_set::Set;
 use vs_slot::Slot;
-use vs_truth::{Hit, Members};
 
 /// The member of a number and a name, without a pattern: three of four stay at the level below.
 pub fn numbered<'a>(name: &'a [u8], number: u16) -> NewMember<'a> {
@@ -39,19 +36,4 @@ pub fn add_to<N: Nodes>(
         attr: None,
     };
     set.add(&add, one.level.min(15), 0, slot)
-}
-
-/// The ten nearest that a beam of width 10 finds; none where the snapshot has no member, or another dimension.
-pub fn nearest_to<N: Nodes, L: Ledger>(
-    snap: &Snap<N>,
-    bits: &Bits,
-    slot: &mut Slot,
-    reads: &mut Steps<L>,
-) -> Result<Option<List<Hit>>, NoMemory> {
-    if snap.count() == 0 || snap.dim() != bits.dim() {
-        return Ok(None);
-    }
-    let wanted = Wanted::new(|_attr: Option<&[u8]>| true);
-    let hits = snap.near(bits, 10, 10, 0, &wanted, slot, reads)?;
-    Ok(Some(hits))
 }

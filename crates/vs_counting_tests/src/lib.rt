@@ -6,7 +6,9 @@ mod counting_tests;
 #[cfg(test)]
 mod epoch_tests;
 mod growing;
+mod searching;
 mod telling;
 
-pub use growing::{add_to, nearest_to, numbered};
+pub use growing::{add_to, numbered};
+pub use searching::{search_graph, search_snap};
 pub use telling::{MOST, Telling, told};

@@ -1,27 +1,22 @@
 //! Additions by one pass, and how long their holds of the lock are.
-use crate::case::Case;
+ghost use Rattle.vs_defs.specs.Bounds.{IsInBounds};
+ghost use Rattle.vs_command.specs.Requests.{request_of};
+
+use crate::case::{Additions, Case, Way};
 use crate::counting::Worker;
 use crate::drawing::Drawn;
+use crate::error::MeasureError;
 use crate::holding::{add_at_once, add_in_steps, now};
 use crate::requests::card;
 use crate::times::Times;
 use std::alloc::Global;
 use std::sync::Wait;
 use std::time::CpuClock;
-use vs_command::Answer;
+use vs_command::{Answer, Request};
 use vs_history::TableName;
 use vs_pass::Pass;
 use vs_shared::Shared;
 use vs_slot::Slot;
-
-/// How members are added.
-#[derive(Clone, Copy, Debug, PartialEq, Eq)]
-pub enum Way {
-    /// In one hold.
-    Now,
-    /// By a draft, a preparation and a commit.
-    Draft,
-}
 
 /// The times of the holds, and of the preparations between them.
 #[derive(Clone, Copy, Debug, PartialEq, Eq)]
@@ -32,36 +27,46 @@ struct Holds {
     commit: Times,
 }
 
-/// Adds the next member.
+impl Holds {
+    /// Of no addition.
+    fn new() -> Holds {
+        Holds {
+            now: Times::new(),
+            draft: Times::new(),
+            prepare: Times::new(),
+            commit: Times::new(),
+        }
+    }
+}
+
+/// Adds a member and notes how long the steps took.
 fn add<N: TableName, R: Wait + CpuClock>(
     rt: &R,
-    alloc: Global,
     shared: &Shared<N>,
     pass: &mut Pass<N>,
-    case: &Case,
-    drawn: &mut Drawn,
-    way: Way,
-    level: Option<u8>,
-    holds: &mut Holds,
+    request: &Request,
+    word: u32,
     slot: &mut Slot,
-) -> anyhow::Result<()> {
-    let word = drawn.word(level);
-    let request = drawn.addition(alloc, case, way)?;
-    match way {
-        Way::Now => {
-            holds.now.note(add_at_once(rt, shared, pass, &request, word, slot)?);
-        }
-        Way::Draft => {
-            let spans = add_in_steps(rt, shared, pass, &request, word, slot)?;
+    holds: &mut Holds,
+) -> anyhow::Result<()>
+    requires { IsInBounds (request_of request.now) }
+{
+    match request {
+        Request::Vadd(add) if add.cas => {
+            let spans = add_in_steps(rt, shared, pass, request, word, slot)?;
             holds.draft.note(spans.draft);
             holds.prepare.note(spans.prepare);
             holds.commit.note(spans.commit);
+        }
+        _ => {
+            let nanos = add_at_once(rt, shared, pass, request, word, slot)?;
+            holds.now.note(nanos);
         }
     }
     Ok(())
 }
 
-/// Adds so many members, and answers how long the steps took.
+/// Adds the members that are drawn next, and answers how long the steps took.
 fn add_each<N: TableName, R: Wait + CpuClock>(
     rt: &R,
     alloc: Global,
@@ -69,45 +74,36 @@ fn add_each<N: TableName, R: Wait + CpuClock>(
     pass: &mut Pass<N>,
     case: &Case,
     drawn: &mut Drawn,
-    way: Way,
-    members: u32,
-    level: Option<u8>,
-    slot: &mut Slot,
+    additions: Additions,
 ) -> anyhow::Result<Holds> {
-    let mut holds = Holds {
-        now: Times::new(),
-        draft: Times::new(),
-        prepare: Times::new(),
-        commit: Times::new(),
-    };
-    for _ in 0..members {
-        add(rt, alloc, shared, pass, case, drawn, way, level, &mut holds, slot)?;
+    let mut holds = Holds::new();
+    let mut slot = shared.take_slot(rt)?;
+    for _ in 0..additions.members {
+        let word = drawn.word(additions.level);
+        let request = drawn.addition(alloc, case, additions.way)?;
+        add(rt, shared, pass, &request, word, &mut slot, &mut holds)?;
     }
+    shared.give_slot(rt, slot);
     Ok(holds)
 }
 
-/// Adds so many members and prints how many there are then, and how long the steps took.
-pub fn add_all<N: TableName, R: Print + Eprint + Wait + CpuClock>(
+/// How many members there are.
+fn count_of<N: TableName, R: Wait>(
     rt: &R,
     alloc: Global,
     shared: &Shared<N>,
-    worker: Option<&mut Worker<N>>,
-    case: &Case,
-    drawn: &mut Drawn,
-    way: Way,
-    members: u32,
-    level: Option<u8>,
-) -> anyhow::Result<()> {
-    let Some(worker) = worker else {
-        return Ok(());
-    };
-    let pass = &mut worker.pass;
+    pass: &mut Pass<N>,
+) -> anyhow::Result<i64> {
     let mut slot = shared.take_slot(rt)?;
-    let holds = add_each(rt, alloc, shared, pass, case, drawn, way, members, level, &mut slot)?;
-    if let Answer::Int(count) = now(rt, shared, pass, &card(alloc)?, &[], &mut slot)? {
-        println!(rt; "{way:?}: {count} members")?;
-    }
+    let answer = now(rt, shared, pass, &card(alloc)?, &[], &mut slot)?;
     shared.give_slot(rt, slot);
+    match answer {
+        Answer::Int(count) => Ok(count),
+        _ => Err(MeasureError::Refused.into()),
+    }
+}
+
+fn print_holds<R: Eprint>(rt: &R, way: Way, holds: &Holds) -> anyhow::Result<()> {
     match way {
         Way::Now => eprintln!(rt; "now {}", holds.now)?,
         Way::Draft => {
@@ -117,4 +113,24 @@ pub fn add_all<N: TableName, R: Print + Eprint + Wait + CpuClock>(
         }
     }
     Ok(())
+}
+
+/// Adds members, and prints how many there are then, and how long the steps took.
+pub fn add_all<N: TableName, R: Print + Eprint + Wait + CpuClock>(
+    rt: &R,
+    alloc: Global,
+    shared: &Shared<N>,
+    worker: Option<&mut Worker<N>>,
+    case: &Case,
+    drawn: &mut Drawn,
+    additions: Additions,
+) -> anyhow::Result<()> {
+    let Some(worker) = worker else {
+        return Ok(());
+    };
+    let pass = &mut worker.pass;
+    let holds = add_each(rt, alloc, shared, pass, case, drawn, additions)?;
+    let count = count_of(rt, alloc, shared, pass)?;
+    println!(rt; "{count} members")?;
+    print_holds(rt, additions.way, &holds)
 }

@@ -8,15 +8,29 @@ use vs_outside::List;
 /// The most threads.
 pub const THREADS: u32 = 4;
 
+/// How a member is added.
+#[derive(Clone, Copy, Debug, PartialEq, Eq)]
+pub enum Way {
+    /// In one hold.
+    Now,
+    /// By a draft, a preparation without the lock, and a commit.
+    Draft,
+}
+
+/// So many members that are added one way: of this level, or of drawn ones.
+#[derive(Clone, Copy, Debug, PartialEq, Eq)]
+pub struct Additions {
+    pub way: Way,
+    pub members: u32,
+    pub level: Option<u8>,
+}
+
 /// One measurement.
 #[derive(Clone, Copy, Debug, PartialEq, Eq)]
 pub enum Step {
     /// Each of the threads asks so many times how many members there are.
     Count { calls: u32, threads: u32 },
-    /// So many members are added, each in one hold; of this level, or of drawn ones.
-    Now { members: u32, level: Option<u8> },
-    /// So many members are added, each by a draft, a preparation without the lock, and a commit.
-    Draft { members: u32, level: Option<u8> },
+    Add(Additions),
 }
 
 /// The members to be added, and the measurements in their order.
@@ -50,20 +64,22 @@ fn level_of(word: &str) -> Result<Option<u8>, MeasureError> {
     }
 }
 
+fn additions_of(way: Way, members: &str, level: &str) -> Result<Step, MeasureError> {
+    Ok(Step::Add(Additions {
+        way,
+        members: number_of(members, 0, 1_048_576)?,
+        level: level_of(level)?,
+    }))
+}
+
 fn step_of(what: &str, count: &str, how: &str) -> Result<Step, MeasureError> {
     match what {
         "count" => Ok(Step::Count {
             calls: number_of(count, 0, u32::MAX)?,
             threads: number_of(how, 1, THREADS)?,
         }),
-        "now" => Ok(Step::Now {
-            members: number_of(count, 0, 1_048_576)?,
-            level: level_of(how)?,
-        }),
-        "draft" => Ok(Step::Draft {
-            members: number_of(count, 0, 1_048_576)?,
-            level: level_of(how)?,
-        }),
+        "now" => additions_of(Way::Now, count, how),
+        "draft" => additions_of(Way::Draft, count, how),
         _ => Err(MeasureError::BadWords),
     }
 }

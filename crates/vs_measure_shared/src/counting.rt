@@ -40,10 +40,7 @@ fn ask<N: TableName, R: Wait>(
 }
 
 /// Prints how many answers there were, and how many a second.
-pub fn count<
-    N: TableName + Send + Sync,
-    R: Print + Eprint + Clock + Threads + Wait + Sync,
->(
+pub fn count<N: TableName + Send + Sync, R: Print + Eprint + Clock + Threads + Wait + Sync>(
     rt: &R,
     alloc: Global,
     shared: &Shared<N>,
@@ -57,9 +54,14 @@ pub fn count<
     }
     let workers = &mut workers[..threads];
     let start = Instant::now(rt)?;
-    thread::for_each_mut(rt, workers, threads, &|_, worker: &mut Worker<N>| {
-        worker.answers = ask(rt, alloc, shared, &mut worker.pass, calls).unwrap_or(0);
-    });
+    thread::for_each_mut(
+        rt,
+        workers,
+        threads,
+        &|_, worker: &mut Worker<N>| {
+            worker.answers = ask(rt, alloc, shared, &mut worker.pass, calls).unwrap_or(0);
+        },
+    );
     let nanos = start.elapsed(rt)?.as_nanos();
     let mut answers: u64 = 0;
     for worker in workers.iter() {

@@ -3,8 +3,7 @@ ghost use Rattle.std.specs.Prelude.{IfOk};
 ghost use Rattle.vs_defs.specs.Bounds.{IsInBounds};
 ghost use Rattle.vs_command.specs.Requests.{request_of};
 
-use crate::adding::Way;
-use crate::case::Case;
+use crate::case::{Case, Way};
 use crate::error::MeasureError;
 use crate::requests::{push_word, request_by};
 use rand_core::utils::NextWord;
@@ -29,14 +28,23 @@ fn push_components(
     source: &mut Lcg64Xsh32,
 ) -> Result<(), NoMemory> {
     for _ in 0..dim {
-        let sign = if source.next_word() >> 31 == 1 { "1" } else { "-1" };
+        let sign = if source.next_word() >> 31 == 1 {
+            "1"
+        } else {
+            "-1"
+        };
         push_word(alloc, words, sign)?;
     }
     Ok(())
 }
 
 /// Puts a name of an option and its number last.
-fn push_option(alloc: Global, words: &mut List<Text>, name: &str, number: u32) -> Result<(), NoMemory> {
+fn push_option(
+    alloc: Global,
+    words: &mut List<Text>,
+    name: &str,
+    number: u32,
+) -> Result<(), NoMemory> {
     push_word(alloc, words, name)?;
     push_word(alloc, words, format!(in alloc; "{number}")?.as_str())
 }
@@ -60,7 +68,12 @@ impl Drawn {
     }
 
     /// The addition of the next member.
-    pub fn addition(&mut self, alloc: Global, case: &Case, way: Way) -> Result<Request, MeasureError>
+    pub fn addition(
+        &mut self,
+        alloc: Global,
+        case: &Case,
+        way: Way,
+    ) -> Result<Request, MeasureError>
         ensures { IfOk result (λ r. IsInBounds (request_of r)) }
     {
         let mut words = List::new(alloc);
@@ -68,7 +81,11 @@ impl Drawn {
         push_word(alloc, &mut words, "k")?;
         push_option(alloc, &mut words, "VALUES", case.dim)?;
         push_components(alloc, &mut words, case.dim, &mut self.vectors)?;
-        push_word(alloc, &mut words, format!(in alloc; "m{}", self.count)?.as_str())?;
+        push_word(
+            alloc,
+            &mut words,
+            format!(in alloc; "m{}", self.count)?.as_str(),
+        )?;
         push_option(alloc, &mut words, "EF", case.ef)?;
         push_option(alloc, &mut words, "M", case.m)?;
         if way == Way::Draft {

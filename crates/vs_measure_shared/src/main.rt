@@ -14,7 +14,7 @@ mod times;
 
 ghost use Rattle.std.specs.Prelude.{◌≡◌};
 
-use crate::adding::{Way, add_all};
+use crate::adding::add_all;
 use crate::case::{Case, Step, THREADS, case_of};
 use crate::counting::{Worker, count};
 use crate::drawing::Drawn;
@@ -31,7 +31,10 @@ use vs_shared::Opened;
 use vs_store::Limits;
 
 /// Each pass beside what its thread is to note.
-fn workers_of<N: TableName>(alloc: Global, passes: Vec<Pass<N>>) -> Result<Vec<Worker<N>>, NoMemory> {
+fn workers_of<N: TableName>(
+    alloc: Global,
+    passes: Vec<Pass<N>>,
+) -> Result<Vec<Worker<N>>, NoMemory> {
     let mut workers = Vec::new(alloc);
     for pass in passes {
         workers.push(Worker { pass, answers: 0 })?;
@@ -43,12 +46,7 @@ fn workers_of<N: TableName>(alloc: Global, passes: Vec<Pass<N>>) -> Result<Vec<W
 fn measure<
     N: TableName + Send + Sync,
     R: Print + Eprint + Clock + CpuClock + Threads + Wait + Sync,
->(
-    rt: &R,
-    alloc: Global,
-    opened: Opened,
-    case: &Case,
-) -> anyhow::Result<()>
+>(rt: &R, alloc: Global, opened: Opened, case: &Case) -> anyhow::Result<()>
     requires { opened ≡ record { table = N.table; limits = N.limits } }
 {
     let (shared, passes) = opened.named::<N>(alloc, case.seed, THREADS, THREADS)?;
@@ -59,13 +57,9 @@ fn measure<
             Step::Count { calls, threads } => {
                 count(rt, alloc, &shared, workers.as_mut_slice(), threads, calls)?;
             }
-            Step::Now { members, level } => {
+            Step::Add(additions) => {
                 let first = workers.as_mut_slice().first_mut();
-                add_all(rt, alloc, &shared, first, case, &mut drawn, Way::Now, members, level)?;
-            }
-            Step::Draft { members, level } => {
-                let first = workers.as_mut_slice().first_mut();
-                add_all(rt, alloc, &shared, first, case, &mut drawn, Way::Draft, members, level)?;
+                add_all(rt, alloc, &shared, first, case, &mut drawn, additions)?;
             }
         }
     }

@@ -34,6 +34,12 @@ impl Times {
 
 impl Display for Times {
     fn fmt<W: Write>(&self, out: &mut Formatter<W>) -> fmt::Result {
-        write!(out, "{} calls, {} ns each, the longest {} ns", self.count, self.mean(), self.longest)
+        write!(
+            out,
+            "{} calls, {} ns each, the longest {} ns",
+            self.count,
+            self.mean(),
+            self.longest
+        )
     }
 }
