@@ -70,7 +70,7 @@ pub fn count<N: TableName + Send + Sync, R: Print + Eprint + Clock + Threads + W
     println!(rt; "count by {threads} threads: {answers} answers")?;
     eprintln!(rt;
         "count by {threads} threads: {} answers a second",
-        u128::from(answers) * 1_000_000_000 / nanos.max(1)
+        u128::from(answers).saturating_mul(1_000_000_000) / nanos.max(1)
     )?;
     Ok(())
 }

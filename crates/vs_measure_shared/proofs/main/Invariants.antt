@@ -1,4 +1,4 @@
 use Rattle.vs_measure_shared.proofs.main.Given as goal
 
 abbrev pub ghosts-measure : goal.ghosts-measure
-ghosts-measure a = record { table = a.opened.table; limits = a.opened.limits }
+ghosts-measure g a = record { table = a.opened.table; limits = a.opened.limits }
