@@ -3,13 +3,15 @@
 --     IsDoneHere job                                     a job that is done over a source and a sink
 --     CompletesScript seed status messages left' written written'      a script's whole messages, where no end failed
 -- The source had `left` and has `left'`, the sink held `written` and holds `written'`.
-use Rattle.std.specs.Prelude.{◌≡◌, ◌⊎◌, ℕ, List, [], ◌∷◌, ◌++◌, Option, Some, None, codes}
+use Rattle.std.specs.Prelude.{◌≡◌, ◌⊎◌, ℕ, true, false, List, [], ◌∷◌, ◌++◌, Option, Some, None, codes}
 use Rattle.vs_defs.specs.Bytes.{Bytes}
 use Rattle.vs_defs.specs.Stream.{Message}
 use Rattle.vs_defs.specs.ProgramWords.{Job}
 use Rattle.vs_defs.specs.ProgramWords.Job.{Script, Schedule, Generate, Serve}
 use Rattle.vs_session_defs.specs.Words.{generator}
+use Rattle.vs_thread_defs.specs.Generator.{Generates}
 use Rattle.vs_outside.specs.Known.{Adds, in_front, NothingLeft}
+use Rattle.vs_connection.specs.Written.{WrittenOf}
 use Rattle.vs_connection.specs.declared.end.SessionEnd.{SessionEnd}
 use Rattle.vs_connection.specs.declared.end.SessionEnd.TheVariants.{Ended, CutShort}
 use Rattle.vs_session.specs.Alone.{EndsWith, CompletesAlone}
@@ -17,7 +19,7 @@ use Rattle.vs_schedule.specs.declared.end.ScheduleEnd.{ScheduleEnd}
 use Rattle.vs_schedule.specs.declared.end.ScheduleEnd.TheVariants as scheduled
 use Rattle.vs_schedule.specs.Ends as schedule
 use Rattle.vs_program.specs.declared.status.Status.{Status}
-use Rattle.vs_program.specs.declared.status.Status.TheVariants.{BadWords, NoMemory}
+use Rattle.vs_program.specs.declared.status.Status.TheVariants.{Done, BadWords, WriteFault, NoMemory}
 use Rattle.vs_program.specs.Status.{status_of, scheduled_of}
 
 abbrev pub bad_words : Bytes
@@ -49,7 +51,15 @@ pub record RunsSchedule (status : Status) (left left' written written' : Option 
   pub ends : schedule.EndsWith end input output
   pub nothing : end ≡ scheduled.Ended → NothingLeft left'
 
--- a job of another call, or that isn't built yet, isn't done here: its words are bad ones
+-- the summary of a generated set was written whole, or one or more of its last bytes are missing where the sink failed; out of memory there
+-- is none of it
+abbrev pub Prints : (seed members dim : ℕ) → Status → Option Bytes → Option Bytes → Type 0
+Prints seed members dim Done written written' = (out : Bytes) × Generates seed members dim out × WrittenOf written out true written'
+Prints seed members dim WriteFault written written' = (out : Bytes) × Generates seed members dim out × WrittenOf written out false written'
+Prints seed members dim NoMemory written written' = written' ≡ written
+Prints seed members dim status written written' = ⊥
+
+-- a job of another call isn't done here: its words are bad ones
 abbrev pub LeavesJob : Status → Option Bytes → Option Bytes → Option Bytes → Option Bytes → Type 0
 LeavesJob BadWords left left' written written' = (left' ≡ left) × Refuses written written'
 LeavesJob NoMemory left left' written written' = (left' ≡ left) × (written' ≡ written)
@@ -60,7 +70,7 @@ abbrev pub Does : Option Job → Status → Option Bytes → Option Bytes → Op
 Does None status left left' written written' = (status ≡ BadWords) × (left' ≡ left) × Refuses written written'
 Does (Some (Script seed)) status left left' written written' = ServesAlone seed status left left' written written'
 Does (Some Schedule) status left left' written written' = RunsSchedule status left left' written written'
-Does (Some (Generate seed members dim)) status left left' written written' = LeavesJob status left left' written written'
+Does (Some (Generate seed members dim)) status left left' written written' = (left' ≡ left) × Prints seed members dim status written written'
 Does (Some (Serve port workers seed connections)) status left left' written written' = LeavesJob status left left' written written'
 
 -- with words of such a job the words are never bad ones
@@ -68,7 +78,7 @@ abbrev pub IsDoneHere : Option Job → Type 0
 IsDoneHere None = ⊥
 IsDoneHere (Some (Script seed)) = Unit {0}
 IsDoneHere (Some Schedule) = Unit {0}
-IsDoneHere (Some (Generate seed members dim)) = ⊥
+IsDoneHere (Some (Generate seed members dim)) = Unit {0}
 IsDoneHere (Some (Serve port workers seed connections)) = ⊥
 
 -- the connection is complete: it was done, or memory was refused

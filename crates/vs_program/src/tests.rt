@@ -19,6 +19,8 @@ const SCRIPT: &[&[u8]] = &[b"script", b"--seed=3"];
 
 const SCHEDULE: &[&[u8]] = &[b"schedule"];
 
+const GENERATE: &[&[u8]] = &[b"generate", b"--dim=1", b"--members", b"1"];
+
 fn text(alloc: Global, bytes: &[u8]) -> Result<Text, AllocError> {
     Ok(Text::from_vec(Vec::from_slice(alloc, bytes)?))
 }
@@ -87,6 +89,18 @@ fn ends(rt: HostRuntime) -> Result<(), Fail> {
             status: Status::BadLine,
         },
         Case {
+            words: GENERATE,
+            input: b"PING\r\n",
+            output: b"members 1\ndim 1\nmax-level 1\nlinks 0\ntruth m0\nbeam m0\nagree 1\n",
+            status: Status::Done,
+        },
+        Case {
+            words: &[b"generate", b"--members", b"0"],
+            input: b"",
+            output: b"vectord: bad words\n",
+            status: Status::BadWords,
+        },
+        Case {
             words: &[b"schedule", b"x"],
             input: b"actors 1\n",
             output: b"vectord: bad words\n",
@@ -121,6 +135,10 @@ fn faults(rt: HostRuntime) -> Result<(), Fail> {
     let (status, sink) = run_case(rt.alloc(), &case, &[], &[5])?;
     assert_eq!(rt; status, Status::WriteFault);
     assert_eq!(rt; sink.written(), b"+PONG\r\n+PO".as_slice());
+    case.words = GENERATE;
+    let (status, sink) = run_case(rt.alloc(), &case, &[], &[4])?;
+    assert_eq!(rt; status, Status::WriteFault);
+    assert_eq!(rt; sink.written(), b"members 1".as_slice());
     case.words = &[];
     let (status, sink) = run_case(rt.alloc(), &case, &[], &[3])?;
     assert_eq!(rt; status, Status::BadWords);
