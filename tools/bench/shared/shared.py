@@ -59,8 +59,8 @@ def show_rates(options):
 def show_holds(options):
     """All additions of a set in one hold each, and all by drafts."""
     for way in ('now', 'draft'):
-        steps = [way, options.members, 'drawn']
-        rounds = [holds(options, 16, steps) for _ in range(options.rounds)]
+        steps = ['now', 1, 'drawn', way, options.members, 'drawn']
+        rounds = [holds(options, 16, steps)[1:] for _ in range(options.rounds)]
         show(f'{options.members} members, M 16, by {way}', rounds)
 
 
