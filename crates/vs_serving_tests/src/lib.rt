@@ -18,3 +18,5 @@ mod meeting;
 mod mixed;
 #[cfg(test)]
 mod serving;
+#[cfg(test)]
+mod wide;
