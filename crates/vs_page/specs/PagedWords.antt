@@ -13,7 +13,7 @@ row_told None id = None
 row_told (Some rows) id = row_at rows id
 
 abbrev pub TellsAt : Option Rows → (ℕ → Option Node) → ℕ → Type 0
-TellsAt rows nodes id = IfSome (nodes id) (λ node. IfSome (row_told rows id) (λ words. words ≡ node.body.bits))
+TellsAt rows nodes id = (node : Node) (words : List ℕ) → nodes id ≡ Some node → row_told rows id ≡ Some words → words ≡ node.body.bits
 
 abbrev pub IsToldAs : Option Rows → ℕ → Option Node → Type 0
 IsToldAs rows id item = IfSome item (λ node. row_told rows id ≡ Some node.body.bits)

@@ -1,7 +1,8 @@
 //! The words of a graph's members by their ids: what they tell of an id is what its node has.
-ghost use Rattle.std.specs.Prelude.{◌≡◌, ◌⊎◌, ℕ, true, None, All, Contains, IfSome, IfOk};
+ghost use Rattle.std.specs.Prelude.{◌≡◌, ◌⊎◌, ℕ, true, Some, Contains, IfSome, IfOk, OnOk};
 ghost use Rattle.std.specs.Option.{option_copied};
 ghost use Rattle.vs_page.specs.Changes.{items_of, says};
+ghost use Rattle.vs_page.specs.Rows.{IsPut};
 ghost use Rattle.vs_page.specs.PagedWords.{row_told, TellsAt, IsToldAs};
 
 use crate::page_map::Change;
@@ -43,6 +44,21 @@ fn is_told(rows: &Option<Rows>, change: &Change<Node>) -> bool
     }
 }
 
+/// Lists the id of a change whose words are not told.
+fn list_untold(
+    ids: &mut Vec<u32>,
+    rows: &Option<Rows>,
+    change: &Change<Node>,
+) -> Result<(), NoMemory>
+    ensures more { OnOk result ((q : ℕ) → Contains ids.old.items q → Contains ids.new.items q) }
+    ensures here { OnOk result (Contains ids.new.items change.now.id ⊎ IsToldAs rows.now change.now.id change.now.item) }
+{
+    if !is_told(rows, change) {
+        ids.push(change.id)?;
+    }
+    Ok(())
+}
+
 /// The ids of changes whose words are not told.
 pub(crate) fn untold_ids(
     alloc: Global,
@@ -53,18 +69,21 @@ pub(crate) fn untold_ids(
 {
     let mut ids = Vec::new(alloc);
     for change in changes {
-        if !is_told(rows, change) {
-            ids.push(change.id)?;
-        }
+        list_untold(&mut ids, rows, change)?;
     }
     Ok(ids)
 }
 
-/// Rows that tell nothing yet, of so many words. None where memory is refused.
-fn fresh_rows(alloc: Global, width: u32) -> Option<Rows>
-    ensures { (q : ℕ) → row_told result q ≡ None }
+/// Rows with these words put at an id. They begin with the first; where memory is refused, they tell less.
+fn with_row(alloc: Global, rows: Option<Rows>, id: u32, words: &[u64]) -> Option<Rows>
+    ensures { IsPut (row_told rows) (row_told result) id (Some words.now) }
 {
-    Rows::new(alloc, width).ok()
+    let mut rows = match rows {
+        Some(rows) => rows,
+        None => Rows::new(alloc, u32::try_from(words.len()).ok()?).ok()?,
+    };
+    rows.put(id, Some(words));
+    Some(rows)
 }
 
 /// Has the words of an id told, or nothing of it.
@@ -72,21 +91,15 @@ fn tell(map: &PageMap<Node>, rows: &mut Option<Rows>, id: u32)
     ensures there { TellsAt rows.new (items_of map.now) id }
     ensures others { (q : ℕ) → TellsAt rows.old (items_of map.now) q → TellsAt rows.new (items_of map.now) q }
 {
-    let Some(node) = map.get(id) else {
-        return;
-    };
-    let words = node.body.bits();
-    if rows.is_none() {
-        *rows = fresh_rows(map.alloc(), words.len() as u32);
-    }
-    if let Some(rows) = rows {
-        rows.put(id, Some(words));
+    if let Some(node) = map.get(id) {
+        let told = rows.take();
+        *rows = with_row(map.alloc(), told, id, node.body.bits());
     }
 }
 
 /// Has the words of ids told, or nothing of them.
 pub(crate) fn tell_all(map: &PageMap<Node>, rows: &mut Option<Rows>, ids: &[u32])
-    ensures there { All (TellsAt rows.new (items_of map.now)) ids.now }
+    ensures there { (q : ℕ) → Contains ids.now q → TellsAt rows.new (items_of map.now) q }
     ensures others { (q : ℕ) → TellsAt rows.old (items_of map.now) q → TellsAt rows.new (items_of map.now) q }
 {
     for id in ids {
