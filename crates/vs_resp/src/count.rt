@@ -57,7 +57,7 @@ impl Decoder {
             self.stage = Stage::Start;
             return;
         }
-        match Vec::with_capacity(self.alloc, (self.value as usize).min(1024)) {
+        match self.spare.list((self.value as usize).min(1024)) {
             Ok(words) => {
                 self.words = List::from_vec(words);
                 self.left = self.value - 1;

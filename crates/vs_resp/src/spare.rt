@@ -1,5 +1,5 @@
-//! The memory of answered words, which later words take, so that most of them ask the allocator for none. What is kept stays within
-//! bounds: a long word's memory is dropped, and so is what goes beyond the bounds of all.
+//! The memory of answered messages and their words, which later ones take, so that most of them ask the allocator for none. What is kept
+//! stays within bounds: the memory of a long word or a long message is dropped, and so is what goes beyond the bounds of all.
 ghost use Rattle.std.specs.Prelude.{◌≡◌, ◌≤◌, [], length, take, IfOk, All, map, vec_len, vec_capacity};
 ghost use Rattle.std.specs.List.{sum};
 
@@ -19,14 +19,23 @@ const ALL_BYTES: usize = 65_536;
 /// takes one step where a copy of just its own takes several.
 const LEAST_BYTES: usize = 16;
 
-/// The memory of words that are no longer needed.
+/// The most messages whose lists of words are kept: those of one piece, if they are short.
+const LISTS: usize = 16;
+
+/// The most words for which a list has room that is kept.
+const LIST_WORDS: usize = 160;
+
+/// The memory of words that are no longer needed, and of the lists of messages, which are empty.
 #[derive(Drop)]
 pub(crate) struct Spare {
     alloc: Global,
+    lists: Vec<Vec<Text>>,
     words: Vec<Vec<u8>>,
     bytes: usize,
     // How many words are handed out in messages.
     lent: usize,
+    ghost few_lists: { vec_len lists ≤ 16 },
+    ghost short_lists: { All (λ list. vec_capacity list ≤ 160) lists.items },
     ghost few: { vec_len words ≤ 4200 },
     ghost short: { All (λ word. vec_capacity word ≤ 64) words.items },
     ghost counted: { bytes ≡ sum (map vec_capacity words.items) },
@@ -38,10 +47,25 @@ impl Spare {
     pub fn new(alloc: Global) -> Spare {
         Spare {
             alloc,
+            lists: Vec::new(alloc),
             words: Vec::new(alloc),
             bytes: 0,
             lent: 0,
         }
+    }
+
+    /// A list without words, with room for so many.
+    pub fn list(&mut self, words: usize) -> Result<Vec<Text>, AllocError>
+        ensures { IfOk result (λ list. list.items ≡ []) }
+    {
+        if words <= LIST_WORDS {
+            if let Some(mut list) = self.lists.pop() {
+                list.clear();
+                list.reserve_exact(words)?;
+                return Ok(list);
+            }
+        }
+        Vec::with_capacity(self.alloc, words)
     }
 
     /// A word without bytes, with room for so many.
@@ -80,8 +104,11 @@ impl Spare {
         Ok(copy)
     }
 
-    /// Makes room to keep the words of a message that is handed out. Where there is no memory for it, they are not kept.
+    /// Makes room to keep a message that is handed out, with its words. Where there is no memory for it, they are not kept.
     pub fn lend(&mut self, words: usize) {
+        let _lists_made = self
+            .lists
+            .reserve_exact(LISTS.saturating_sub(self.lists.len()));
         self.lent = self.lent.saturating_add(words);
         let room = self.lent.min(WORDS);
         let _made = self
@@ -89,12 +116,22 @@ impl Spare {
             .reserve_exact(room.saturating_sub(self.words.len()));
     }
 
-    /// Keeps the memory of a message's words, within the bounds. It takes no memory.
+    /// Keeps the memory of a message and its words, within the bounds. It takes no memory.
     pub fn keep(&mut self, message: List<Text>) {
         let mut words = message.into_vec();
         self.lent = self.lent.saturating_sub(words.len());
         while let Some(word) = words.pop() {
             self.keep_word(word.into_vec());
+        }
+        self.keep_list(words);
+    }
+
+    fn keep_list(&mut self, list: Vec<Text>) {
+        if list.capacity() > LIST_WORDS {
+            return;
+        }
+        if self.lists.len() < self.lists.capacity().min(LISTS) {
+            self.lists.push_reserved(list);
         }
     }
 
