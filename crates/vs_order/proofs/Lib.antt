@@ -1,2 +1,3 @@
 pub mod FreeIds
 pub mod Places
+pub mod Chunks
