@@ -1,4 +1,4 @@
-//! The members of a snapshot by their places. A member's name and its place are found without its node.
+//! The members of a snapshot by their places. A member's name, its place and mostly its words are found without its node.
 ghost use Rattle.std.specs.Prelude.{◌≡◌, ◌<◌, ◌+◌, Some, IsSome, IsSomeAnd, length, option_map, position, slice_get};
 ghost use Rattle.std.specs.Option.{option_copied};
 ghost use Rattle.vs_defs.specs.Beam.{level_at};
@@ -48,9 +48,15 @@ impl<N: Nodes> Members for Snap<N> {
     }
 
     fn bits<L: Ledger>(&self, place: u32, reads: &mut Steps<L>) -> &[u64] {
-        node_at(&self.graph, self.order.id_at(place), reads)
-            .body
-            .bits()
+        match self.rows.get(place) {
+            Some(words) => {
+                reads.tick();
+                words
+            }
+            None => node_at(&self.graph, self.order.id_at(place), reads)
+                .body
+                .bits(),
+        }
     }
 
     fn name(&self, place: u32) -> &[u8] {
