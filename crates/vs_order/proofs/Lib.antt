@@ -1,3 +1,2 @@
 pub mod FreeIds
 pub mod Places
-pub mod Chunks

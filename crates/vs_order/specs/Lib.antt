@@ -1,4 +1,3 @@
 pub mod Entries
 pub mod Ids
 pub mod Listed
-pub mod Rows

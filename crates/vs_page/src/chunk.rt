@@ -2,11 +2,11 @@
 ghost use Rattle.std.specs.Prelude.{◌≡◌, IfOk, IfSome, IsTrue, IsFalse};
 ghost use Rattle.vs_page.specs.Rows.{IsWritten};
 
+use crate::Copied;
 use std::alloc::Global;
 use std::marker::Model;
 use std::sync::Arc;
 use vs_outside::NoMemory;
-use crate::Copied;
 
 /// Writes a row over the words from a place on, or behind the last of them. `false`, and nothing changed, where memory is refused and where
 /// the words end in between.

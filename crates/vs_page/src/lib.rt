@@ -11,6 +11,8 @@ mod page_nodes;
 mod page_words;
 mod placing;
 mod reading;
+#[cfg(test)]
+mod row_tests;
 mod rows;
 mod shared_list;
 #[cfg(test)]

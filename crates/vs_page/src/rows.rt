@@ -5,10 +5,10 @@ ghost use Rattle.std.specs.Option.{option_copied};
 ghost use Rattle.vs_page.specs.Changes.{items_of};
 ghost use Rattle.vs_page.specs.Rows.{IsWritten, IsPut, row_in, row_of, row_at};
 
+use crate::PageMap;
 use crate::chunk::Chunk;
 use std::alloc::Global;
 use vs_outside::NoMemory;
-use crate::PageMap;
 
 /// How many rows a chunk has.
 const CHUNK_ROWS: u32 = 256;

@@ -7,7 +7,7 @@ use Rattle.vs_graph.specs.declared.node.Node.{Node}
 use Rattle.vs_graph.specs.Replaced.{IsSameGraph}
 use Rattle.vs_graph.specs.Seen.{Seen}
 use Rattle.vs_order.specs.Entries.{Entries}
-use Rattle.vs_order.specs.declared.rows.Rows.{Rows}
+use Rattle.vs_page.specs.declared.rows.Rows.{Rows}
 use Rattle.vs_set.specs.Kept.{set_by, AreNamed, IsKept, KeepRows}
 
 module _ {N : Type 0} (at : N → ℕ → Option Node) (new old : Seen N) (same : IsSameGraph at new old) (after before : Entries) (entries : after ≡ before) where

@@ -14,7 +14,7 @@ use Rattle.std.proofs.lemmas.Option.{cond_some, slice_get-get_or}
 use Rattle.vs_defs.specs.Bytes.{Bytes}
 use Rattle.vs_defs.specs.Store.{Member, is_of_name, no_member, with_replaced}
 use Rattle.vs_defs.specs.PlainStep.{with_attr}
-use Rattle.vs_order.specs.Rows.{IsPut}
+use Rattle.vs_page.specs.Rows.{IsPut}
 use Rattle.vs_truth.specs.Nearest.{KeepsBits}
 use Rattle.vs_set.specs.Kept.{AreRowsOf}
 

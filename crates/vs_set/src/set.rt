@@ -9,8 +9,9 @@ use crate::Snap;
 use std::alloc::Global;
 use std::marker::Model;
 use vs_graph::{FreshNodes, Graph, Nodes};
-use vs_order::{Names, Order, Rows};
+use vs_order::{Names, Order};
 use vs_outside::NoMemory;
+use vs_page::Rows;
 
 /// Members by their names, with the graph of their links. A new member goes last, a replaced one keeps its place, and the last one takes
 /// the place of a removed one. Contracts see no id.

@@ -5,7 +5,7 @@ ghost use Rattle.vs_set.specs.Kept.{IsSound};
 use std::alloc::Global;
 use std::marker::Model;
 use vs_graph::{Graph, Nodes};
-use vs_order::{Order, Rows};
+use vs_order::Order;
 
 /// The members and the graph of a set as they stood when it was taken.
 #[derive(Drop)]
