@@ -1,4 +1,4 @@
-use Rattle.std.proofs.Common.{◌≡◌, ◌∙◌, ◌++◌, sym, ap, length, take, List, ℕ}
+use Rattle.std.proofs.Common.{◌∙◌, ◌++◌, sym, ap, length, take, List, ℕ}
 use Rattle.std.proofs.Math.Seq.{take-take}
 use Rattle.vs_resp.proofs.spare.Spare.copy.Goals as goal
 
