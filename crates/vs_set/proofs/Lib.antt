@@ -17,3 +17,4 @@ pub mod Firsts
 pub mod Nearness
 pub mod Around
 pub mod Telling
+pub mod FirstRows
