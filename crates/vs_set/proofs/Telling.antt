@@ -4,7 +4,7 @@
 --     rows_replaced, rows_removed, rows_given      a member is replaced, removed, or gets another attribute
 --     rows_same, rows_none      a copy of the rows, and no members
 --     told               the words that are told at a member's place
-use Rattle.std.proofs.Common.{◌≡◌, ◌≢◌, ℕ, zero, suc, ◌<◌, ◌≤◌, ◌+◌, ◌-◌, Bool, true, false, not, cond, List, [], ◌∷◌, ◌++◌, length, take, set, refl, sym, ap, ◌∙◌, subst, arith, inl, inr, get_or, length-take-le}
+use Rattle.std.proofs.Common.{◌≡◌, ◌≢◌, ℕ, zero, suc, ◌<◌, ◌+◌, ◌-◌, Bool, true, false, not, cond, List, [], ◌∷◌, ◌++◌, length, set, refl, sym, ap, ◌∙◌, subst, arith, inl, inr, get_or, length-take-le}
 use Rattle.std.specs.Prelude.{Some, None, IfSome, IsSomeAnd, slice_get, swap_remove, position, nat_lt}
 use Rattle.std.specs.declared.option.Option.{Option}
 use Rattle.std.specs.List.{position_or_len}

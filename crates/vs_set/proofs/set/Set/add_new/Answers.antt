@@ -1,4 +1,4 @@
-use Rattle.std.proofs.Common.{◌≡◌, ◌+◌, ◌++◌, ◌∷◌, [], length, None, sym, ap, ◌∙◌, subst, arith, is_some}
+use Rattle.std.proofs.Common.{◌≡◌, ◌++◌, ◌∷◌, [], length, None, sym, ap, ◌∙◌, subst, arith, is_some}
 use Rattle.std.proofs.lemmas.List.Sums.{count_by-le-length}
 use Rattle.vs_defs.specs.Store.{Member, is_member}
 use Rattle.vs_graph.specs.Standing.{members_of}

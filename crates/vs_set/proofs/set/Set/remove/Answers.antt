@@ -3,7 +3,7 @@ use Rattle.std.specs.Prelude.{IsSomeAnd, slice_get}
 use Rattle.std.proofs.lemmas.List.Sums.{count_by-le-length}
 use Rattle.vs_defs.specs.Store.{Member, is_member}
 use Rattle.vs_graph.specs.Standing.{members_of}
-use Rattle.vs_order.specs.Entries.{ids_of, place_of, without_place}
+use Rattle.vs_order.specs.Entries.{ids_of, without_place}
 use Rattle.vs_set.specs.Kept.{set_by}
 use Rattle.vs_set.specs.Changed.{RemovesMember}
 use Rattle.vs_set.proofs.Members.{counted, place_is}

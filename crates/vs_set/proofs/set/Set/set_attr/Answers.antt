@@ -3,7 +3,7 @@ use Rattle.std.proofs.lemmas.List.Sums.{count_by-le-length}
 use Rattle.vs_defs.specs.PlainStep.{attr_after}
 use Rattle.vs_defs.specs.Store.{Member, is_member}
 use Rattle.vs_graph.specs.Standing.{members_of}
-use Rattle.vs_order.specs.Entries.{ids_of, id_of}
+use Rattle.vs_order.specs.Entries.{ids_of}
 use Rattle.vs_set.specs.Changed.{attributed}
 use Rattle.vs_set.proofs.Given.{with_none, counts, set_given, kept_given, rows_kept}
 use Rattle.vs_set.proofs.Members.{counted, has_is, live_at, named_at}
