@@ -6,6 +6,7 @@ use std::alloc::Global;
 use std::marker::Model;
 use vs_graph::{Graph, Nodes};
 use vs_order::Order;
+use vs_page::Rows;
 
 /// The members and the graph of a set as they stood when it was taken.
 #[derive(Drop)]
