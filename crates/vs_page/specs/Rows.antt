@@ -3,12 +3,14 @@
 --     row_in width words row           a row of a chunk, which has its rows one after another
 --     row_of width chunks place        the row at a place of chunks of 256 rows
 --     row_at rows place                the words that are told at a place, or nothing
+--     row_of_run run k                 a row of rows that lie beside one another
 --     IsPut old new place words        another store tells these words at the place, or nothing, and elsewhere what the old one told, or nothing
 use Rattle.std.specs.Prelude.{◌≡◌, ◌≢◌, ◌≤◌, ◌+◌, ◌*◌, ◌/◌, ◌%◌, ◌++◌, ℕ, List, Some, None, IfSome, cond, nat_le, length, take, drop}
 use Rattle.std.specs.declared.option.Option.{Option}
 use Rattle.vs_page.specs.declared.page_map.PageMap.{PageMap}
 use Rattle.vs_page.specs.Changes.{items_of}
 use Rattle.vs_page.specs.declared.rows.Rows.{Rows}
+use Rattle.vs_page.specs.declared.rows.Run.{Run}
 
 pub record IsWritten (old new : List ℕ) (start : ℕ) (row : List ℕ) : Type 0 where
   pub within : start ≤ length old
@@ -30,6 +32,9 @@ row_of_map width (Some map) place = row_of width (items_of map) place
 
 abbrev pub row_at : Rows → (place : ℕ) → Option (List ℕ)
 row_at rows place = row_of_map rows.width rows.chunks place
+
+abbrev pub row_of_run : Run → (k : ℕ) → List ℕ
+row_of_run run k = take run.width (drop (k * run.width) run.words.now)
 
 pub record IsPut (old new : ℕ → Option (List ℕ)) (place : ℕ) (words : Option (List ℕ)) : Type 0 where
   pub there : IfSome (new place) (λ row. words ≡ Some row)

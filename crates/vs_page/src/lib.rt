@@ -22,4 +22,4 @@ pub use copied::Copied;
 pub use page_list::PageList;
 pub use page_map::{Change, PageMap};
 pub use page_nodes::PageNodes;
-pub use rows::Rows;
+pub use rows::{Rows, Run};

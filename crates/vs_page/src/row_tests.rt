@@ -139,3 +139,53 @@ fn nothing_is_told_where_nothing_is_known(rt: HostRuntime) -> Result<(), AllocEr
     assert!(rt; rows.get(257).is_none());
     Ok(())
 }
+
+/// Whether the rows from a place on that lie beside one another are so many, each with the number of its place.
+fn lie_beside(
+    alloc: Global,
+    rows: &Rows,
+    width: u32,
+    (place, most): (u32, u32),
+    count: u32,
+) -> Result<bool, AllocError> {
+    let run = rows.beside(place, most);
+    let mut all = run.rows == count;
+    for row in 0..run.rows {
+        let words = numbered(alloc, width, u64::from(place) + u64::from(row))?;
+        let start = row as usize * width as usize;
+        all = all
+            && match run.words.get(start..start + width as usize) {
+                Some(row) => row == words.as_slice(),
+                None => false,
+            };
+    }
+    Ok(all)
+}
+
+#[test]
+fn rows_of_a_chunk_lie_beside_one_another(rt: HostRuntime) -> Result<(), AllocError> {
+    let alloc = rt.alloc();
+    for width in [1, 3] {
+        let rows = rows_to(alloc, width, 258)?;
+        let cases = [
+            (0, 258, 256),
+            (0, 256, 256),
+            (0, 255, 255),
+            (0, 0, 0),
+            (17, 3, 3),
+            (255, 3, 1),
+            (256, 2, 2),
+            (256, 9, 2),
+            (257, 9, 1),
+            (258, 9, 0),
+            (600, 9, 0),
+        ];
+        for (place, most, count) in cases {
+            assert!(rt;
+                lie_beside(alloc, &rows, width, (place, most), count)?,
+                "{width}, {place}, {most}"
+            );
+        }
+    }
+    Ok(())
+}

@@ -1,9 +1,9 @@
 //! The words of members by their places, in chunks of 256 rows that copies share. They say nothing wrong and may say nothing, so that no
 //! change is refused: where memory is, the chunk is given up, and at worst all chunks.
-ghost use Rattle.std.specs.Prelude.{◌≡◌, ◌≢◌, ◌<◌, ◌*◌, ℕ, None, Some, [], IfOk, IfSome, OnOk, length, unwrap_or};
+ghost use Rattle.std.specs.Prelude.{◌≡◌, ◌≢◌, ◌<◌, ◌≤◌, ◌+◌, ◌*◌, ℕ, None, Some, [], IfOk, IfSome, OnOk, length, unwrap_or};
 ghost use Rattle.std.specs.Option.{option_copied};
 ghost use Rattle.vs_page.specs.Changes.{items_of};
-ghost use Rattle.vs_page.specs.Rows.{IsWritten, IsPut, row_in, row_of, row_at};
+ghost use Rattle.vs_page.specs.Rows.{IsWritten, IsPut, row_in, row_of, row_at, row_of_run};
 
 use crate::PageMap;
 use crate::chunk::Chunk;
@@ -20,6 +20,53 @@ pub struct Rows {
     width: u32,
     // by number, which is the place over 256
     chunks: Option<PageMap<Chunk>>,
+}
+
+/// Rows that lie beside one another, one after another.
+#[derive(Drop)]
+pub struct Run<'a> {
+    // how many words a row has
+    pub width: usize,
+    pub rows: u32,
+    pub words: &'a [u64],
+}
+
+/// No rows.
+fn no_rows<'a>() -> Run<'a>
+    ensures { result.rows ≡ 0 }
+{
+    Run {
+        width: 0,
+        rows: 0,
+        words: &[],
+    }
+}
+
+/// The rows of a chunk from one on, at most so many.
+fn run_in(words: &[u64], width: u32, row: u32, most: u32) -> Run
+    requires { row < 256 }
+    ensures few { result.rows ≤ most }
+    ensures inside { 0 < result.rows → row + result.rows ≤ 256 }
+    ensures long { result.rows * result.width ≤ length result.words.now }
+    ensures each { (k : ℕ) → k < result.rows → row_in width words.now (row + k) ≡ Some (row_of_run result k) }
+{
+    let width = width as usize;
+    let start = row as usize * width;
+    if width == 0 || words.len() < start {
+        return no_rows();
+    }
+    let whole = (words.len() - start) / width;
+    let rows = most.min(CHUNK_ROWS - row);
+    let rows = if whole < rows as usize {
+        whole as u32
+    } else {
+        rows
+    };
+    Run {
+        width,
+        rows,
+        words: &words[start..],
+    }
 }
 
 /// A row of a chunk.
@@ -131,6 +178,21 @@ impl Rows {
         let chunks = self.chunks.as_ref()?;
         let chunk = chunks.get(place / CHUNK_ROWS)?;
         row_in(chunk.as_slice(), self.width, place % CHUNK_ROWS)
+    }
+
+    /// The rows from a place on that lie beside its own, at most so many; none where none is told there.
+    pub fn beside(&self, place: u32, most: u32) -> Run
+        ensures few { result.rows ≤ most }
+        ensures long { result.rows * result.width ≤ length result.words.now }
+        ensures each { (k : ℕ) → k < result.rows → row_at self.now (place + k) ≡ Some (row_of_run result k) }
+    {
+        let Some(chunks) = &self.chunks else {
+            return no_rows();
+        };
+        match chunks.get(place / CHUNK_ROWS) {
+            Some(chunk) => run_in(chunk.as_slice(), self.width, place % CHUNK_ROWS, most),
+            None => no_rows(),
+        }
     }
 
     /// Puts words at a place, or none. Rows are to come one after another: what is told at a place beyond the next one is nothing.
