@@ -25,18 +25,16 @@ pub(crate) fn links<'a, N: Nodes, L: Ledger>(
 }
 
 /// How far a live id is from the query.
-pub(crate) fn far<N: Nodes, L: Ledger>(
-    nodes: &N,
-    id: u32,
-    query: &[u64],
-    reads: &mut Steps<L>,
-) -> u32
+fn far<N: Nodes, L: Ledger>(nodes: &N, id: u32, query: &[u64], reads: &mut Steps<L>) -> u32
     requires few { length query.now ≤ 512 }
     requires live { HasWords (N.at nodes.now) (length query.now) id }
     ensures far { result ≡ far_at (N.at nodes.now) query.now id }
     ensures told { reads.new ≡ reads.old + 1 }
 {
-    distance(query, nodes.words(id, reads))
+    match nodes.get(id, reads) {
+        Some(node) => distance(query, node.body.bits()),
+        None => unreachable!(),
+    }
 }
 
 /// A neighbour at the layer that is strictly nearer.

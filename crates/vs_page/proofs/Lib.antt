@@ -4,5 +4,3 @@ pub mod Listings
 pub mod Below
 pub mod FirstItems
 pub mod Puts
-pub mod Chunks
-pub mod Words

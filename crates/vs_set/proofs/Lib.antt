@@ -16,5 +16,3 @@ pub mod Prepared
 pub mod Firsts
 pub mod Nearness
 pub mod Around
-pub mod Telling
-pub mod FirstRows

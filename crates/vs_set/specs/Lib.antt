@@ -8,4 +8,3 @@ pub mod Again
 pub mod Given
 pub mod Retaken
 pub mod Firsts
-pub mod Listed

@@ -9,7 +9,6 @@ mod drafting;
 mod error;
 mod finding;
 mod growing;
-mod listing;
 mod placing;
 mod reading;
 mod removing;

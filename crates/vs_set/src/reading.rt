@@ -1,5 +1,4 @@
-//! The members of a snapshot by their places. A member's name, its place and mostly its words are found without its
-//! node, and an exact search goes over the words of a chunk row by row.
+//! The members of a snapshot by their places. A member's name and its place are found without its node.
 ghost use Rattle.std.specs.Prelude.{◌≡◌, ◌<◌, ◌+◌, Some, IsSome, IsSomeAnd, length, option_map, position, slice_get};
 ghost use Rattle.std.specs.Option.{option_copied};
 ghost use Rattle.vs_defs.specs.Beam.{level_at};
@@ -10,7 +9,7 @@ use crate::Snap;
 use std::marker::Brand;
 use std::sync::ledger::{Blank, Ledger};
 use vs_graph::{Graph, Node, Nodes, Steps};
-use vs_truth::{Members, Run};
+use vs_truth::Members;
 
 /// The node of a live id.
 pub(crate) fn node_at<'a, N: Nodes, L: Ledger>(
@@ -49,27 +48,9 @@ impl<N: Nodes> Members for Snap<N> {
     }
 
     fn bits<L: Ledger>(&self, place: u32, reads: &mut Steps<L>) -> &[u64] {
-        match self.rows.get(place) {
-            Some(words) => {
-                reads.tick();
-                words
-            }
-            None => node_at(&self.graph, self.order.id_at(place), reads)
-                .body
-                .bits(),
-        }
-    }
-
-    fn beside<L: Ledger>(&self, place: u32, most: u32, reads: &mut Steps<L>) -> Run {
-        let run = self.rows.beside(place, most);
-        for _ in 0..run.rows {
-            reads.tick();
-        }
-        Run {
-            width: run.width,
-            rows: run.rows,
-            words: run.words,
-        }
+        node_at(&self.graph, self.order.id_at(place), reads)
+            .body
+            .bits()
     }
 
     fn name(&self, place: u32) -> &[u8] {

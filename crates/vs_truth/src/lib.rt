@@ -6,7 +6,6 @@ mod members;
 mod nearest_heap;
 mod pieces;
 mod rows;
-mod run;
 mod scan;
 #[cfg(test)]
 mod tests;
@@ -16,5 +15,4 @@ pub use members::Members;
 pub use nearest_heap::NearestHeap;
 pub use pieces::{LEAST_IN_PIECES, nearest_in_pieces};
 pub use rows::{Row, nearest_wide};
-pub use run::Run;
 pub use scan::{hits_of, nearest};
