@@ -25,16 +25,18 @@ pub(crate) fn links<'a, N: Nodes, L: Ledger>(
 }
 
 /// How far a live id is from the query.
-fn far<N: Nodes, L: Ledger>(nodes: &N, id: u32, query: &[u64], reads: &mut Steps<L>) -> u32
+pub(crate) fn far<N: Nodes, L: Ledger>(
+    nodes: &N,
+    id: u32,
+    query: &[u64],
+    reads: &mut Steps<L>,
+) -> u32
     requires few { length query.now ≤ 512 }
     requires live { HasWords (N.at nodes.now) (length query.now) id }
     ensures far { result ≡ far_at (N.at nodes.now) query.now id }
     ensures told { reads.new ≡ reads.old + 1 }
 {
-    match nodes.get(id, reads) {
-        Some(node) => distance(query, node.body.bits()),
-        None => unreachable!(),
-    }
+    distance(query, nodes.words(id, reads))
 }
 
 /// A neighbour at the layer that is strictly nearer.

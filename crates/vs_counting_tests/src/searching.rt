@@ -10,7 +10,7 @@ use vs_beam::{Beam, beam, descend};
 use vs_bits::Bits;
 use vs_graph::{Graph, Nodes, Steps};
 use vs_outside::{List, NoMemory};
-use vs_rank::{Testing, Wanted};
+use vs_rank::{Everyone, Testing, Wanted};
 use vs_set::Snap;
 use vs_slot::Slot;
 use vs_truth::{Hit, Members};
@@ -43,7 +43,7 @@ pub fn search_snap<N: Nodes, L: Ledger>(
     if snap.count() == 0 || snap.dim() != bits.dim() {
         return Ok(None);
     }
-    let hits = near_by(snap, bits, |_attr: Option<&[u8]>| true, slot, reads)?;
+    let hits = near_by(snap, bits, Everyone, slot, reads)?;
     Ok(Some(hits))
 }
 

@@ -28,6 +28,11 @@ impl Nodes for Telling {
         self.nodes.get(id, reads)
     }
 
+    fn words<L: Ledger>(&self, id: u32, reads: &mut Steps<L>) -> &[u64] {
+        self.looks.set(self.looks.get().saturating_add(1).min(MOST));
+        self.nodes.words(id, reads)
+    }
+
     fn limit(&self) -> u32 {
         self.nodes.limit()
     }

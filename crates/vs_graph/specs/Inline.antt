@@ -7,12 +7,14 @@ use Rattle.vs_graph.specs.declared.inline_name.KeptName.TheVariants as name
 
 abbrev pub words_kept : KeptWords → List ℕ
 words_kept (words.Inline count words) = take count words
+words_kept (words.Block16 block) = block.items
 words_kept (words.Block32 block) = block.items
 words_kept (words.Block64 block) = block.items
 words_kept (words.Long list) = list
 
 abbrev pub AreWordsSound : KeptWords → Type 0
-AreWordsSound (words.Inline count words) = count ≤ 16
+AreWordsSound (words.Inline count words) = count ≤ 4
+AreWordsSound (words.Block16 block) = Unit {0}
 AreWordsSound (words.Block32 block) = Unit {0}
 AreWordsSound (words.Block64 block) = Unit {0}
 AreWordsSound (words.Long list) = Unit {0}

@@ -51,7 +51,7 @@ fn place_of(ids: &[u32], id: u32) -> Option<usize>
 }
 
 impl Edit {
-    ghost use Rattle.std.specs.Prelude.{◌≡◌, ◌≢◌, ◌+◌, ◌<◌, ℕ, length, Some, None, OnOk, OnErr, IsSome, IsSomeAnd, option_map};
+    ghost use Rattle.std.specs.Prelude.{◌≡◌, ◌≢◌, ◌+◌, ◌<◌, ℕ, length, Some, None, OnOk, OnErr, IsSome, IfSome, IsSomeAnd, option_map};
     ghost use Rattle.std.specs.Option.{option_copied, option_flatten};
     ghost use Rattle.vs_graph.specs.Said.{listed, said};
     ghost use Rattle.vs_graph.specs.Edits.{changed, overwritten, SaysAt};
@@ -184,6 +184,27 @@ impl Edit {
                 node.as_ref()
             }
             None => base.get(id, reads),
+        }
+    }
+
+    /// The words of the member at a live id of the base overwritten.
+    pub fn words<'a, N: Nodes, L: Ledger>(
+        &'a self,
+        base: &'a N,
+        id: u32,
+        reads: &mut Steps<L>,
+    ) -> &'a [u64]
+        requires { IsSome (overwritten self.now (N.at base.now) id) }
+        ensures value { IfSome (overwritten self.entry.now (N.at base.entry.now) id) (λ node. result.now ≡ node.body.bits) }
+        ensures told { reads.new ≡ reads.old + 1 }
+    {
+        match self.own(id) {
+            Some(Some(node)) => {
+                reads.tick();
+                node.body.bits()
+            }
+            Some(None) => unreachable!(),
+            None => base.words(id, reads),
         }
     }
 

@@ -8,7 +8,7 @@ use std::alloc::Global;
 use std::marker::Model;
 use vs_outside::NoMemory;
 
-/// The name and the vector of a member. Words up to 16 and a name of up to 22 bytes lie in the value itself, so that a search
+/// The name and the vector of a member. Words up to 4 and a name of up to 22 bytes lie in the value itself, so that a search
 /// that has the node has them; copies share what is longer. A contract sees a `Body`.
 #[derive(Drop)]
 pub struct InlineBody {

@@ -7,12 +7,13 @@ use std::alloc::Global;
 use std::marker::Model;
 use vs_outside::{List, NoMemory};
 
-/// How many words lie in the value: those of 1,024 bits.
-pub const INLINE_WORDS: usize = 16;
+/// How many words lie in the value: those of 256 bits.
+pub const INLINE_WORDS: usize = 4;
 
 #[derive(Drop)]
 enum KeptWords {
-    Inline { count: u8, words: [u64; 16] },
+    Inline { count: u8, words: [u64; 4] },
+    Block16(RefCounted<ArrayVec<u64, 16>>),
     Block32(RefCounted<ArrayVec<u64, 32>>),
     Block64(RefCounted<ArrayVec<u64, 64>>),
     Long(RefCounted<List<u64>>),
@@ -47,12 +48,12 @@ fn array_of<const N: usize>(words: &[u64]) -> ArrayVec<u64, N>
     }
 }
 
-/// Up to 16 words, in the value.
+/// Up to 4 words, in the value.
 fn inline_of(words: &[u64]) -> InlineWords
-    requires { length words.now ≤ 16 }
+    requires { length words.now ≤ 4 }
     ensures { result ≡ words.now }
 {
-    let mut places = [0u64; 16];
+    let mut places = [0u64; 4];
     places[..words.len()].copy_from_slice(words);
     InlineWords {
         kept: KeptWords::Inline {
@@ -63,15 +64,17 @@ fn inline_of(words: &[u64]) -> InlineWords
 }
 
 impl InlineWords {
-    /// A copy of these words. Up to 16 take no memory, up to 64 one block.
+    /// A copy of these words. Up to 4 take no memory, up to 64 one block.
     pub fn from_slice(alloc: Global, words: &[u64]) -> Result<InlineWords, NoMemory>
         ensures value { IfOk result (λ w. w ≡ words.now) }
-        ensures inline { length words.now ≤ 16 → IsOk result }
+        ensures inline { length words.now ≤ 4 → IsOk result }
     {
-        if words.len() <= 16 {
+        if words.len() <= 4 {
             return Ok(inline_of(words));
         }
-        let kept = if words.len() <= 32 {
+        let kept = if words.len() <= 16 {
+            KeptWords::Block16(RefCounted::new(alloc, array_of(words))?)
+        } else if words.len() <= 32 {
             KeptWords::Block32(RefCounted::new(alloc, array_of(words))?)
         } else if words.len() <= 64 {
             KeptWords::Block64(RefCounted::new(alloc, array_of(words))?)
@@ -86,6 +89,7 @@ impl InlineWords {
     {
         match &self.kept {
             KeptWords::Inline { count, words } => &words[..*count as usize],
+            KeptWords::Block16(block) => block.get().as_slice(),
             KeptWords::Block32(block) => block.get().as_slice(),
             KeptWords::Block64(block) => block.get().as_slice(),
             KeptWords::Long(list) => list.get().as_slice(),
@@ -101,6 +105,7 @@ impl InlineWords {
                 count: *count,
                 words: *words,
             },
+            KeptWords::Block16(block) => KeptWords::Block16(block.try_clone()?),
             KeptWords::Block32(block) => KeptWords::Block32(block.try_clone()?),
             KeptWords::Block64(block) => KeptWords::Block64(block.try_clone()?),
             KeptWords::Long(list) => KeptWords::Long(list.try_clone()?),

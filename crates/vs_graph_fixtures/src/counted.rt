@@ -29,6 +29,11 @@ impl Nodes for Counted {
         self.nodes.get(id, reads)
     }
 
+    fn words<L: Ledger>(&self, id: u32, reads: &mut Steps<L>) -> &[u64] {
+        self.gets.set(self.gets.get().wrapping_add(1));
+        self.nodes.words(id, reads)
+    }
+
     fn limit(&self) -> u32 {
         self.nodes.limit()
     }

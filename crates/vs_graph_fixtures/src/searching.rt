@@ -12,7 +12,7 @@ use std::sync::ledger::Ledger;
 use vs_beam::{Beam, beam};
 use vs_graph::{FreshNodes, Graph, Nodes, Steps};
 use vs_outside::{List, NoMemory};
-use vs_rank::{Key, Testing, Wanted};
+use vs_rank::{Everyone, Key, Testing, Wanted};
 use vs_slot::Slot;
 
 /// The beam of layer 0 from the entry; none of an empty graph.
@@ -54,16 +54,7 @@ pub fn search_all<N: Nodes, L: Ledger>(
     requires fits { FitsDimension graph.now.dim query.now }
     requires wide { 0 < ef }
 {
-    search(
-        alloc,
-        graph,
-        query,
-        ef,
-        0,
-        |_attr: Option<&[u8]>| true,
-        slot,
-        reads,
-    )
+    search(alloc, graph, query, ef, 0, Everyone, slot, reads)
 }
 
 /// Whether an attribute is `{"k":2}`, told by its sixth byte.

@@ -17,7 +17,7 @@ use std::sync::ledger::Ledger;
 use vs_beam::{Descent, descend};
 use vs_graph::{Graph, InlineBody, Nodes, Steps};
 use vs_outside::{List, NoMemory};
-use vs_rank::{Testing, Wanted};
+use vs_rank::{Everyone, Testing, Wanted};
 use vs_slot::Slot;
 
 /// Whom a new member is to be linked to, from the highest layer down at which it meets others.
@@ -88,8 +88,7 @@ pub fn prepare<N: Nodes, L: Ledger>(
         → IsChosen (set_of (N.at graph.now.nodes) graph.now.entry graph.now.m graph.now.dim cut ids) (bits_of_words graph.now.dim body.bits) level ef (names_down draft.chosen)) }
 {
     let query = body.bits();
-    let everyone = |_attr: Option<&[u8]>| true;
-    let mut lists = chosen_lists(alloc, graph, query, level, ef, everyone, slot, reads)?;
+    let mut lists = chosen_lists(alloc, graph, query, level, ef, Everyone, slot, reads)?;
     lists.reverse();
     let chosen = filled(alloc, lists, level + 1)?;
     Ok(Draft {

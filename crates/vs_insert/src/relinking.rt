@@ -16,7 +16,7 @@ use vs_beam::beam;
 use vs_graph::{Edit, Graph, Nodes, Steps, live_node};
 use vs_link::{link_layer, select};
 use vs_outside::{List, NoMemory};
-use vs_rank::{Key, Testing, Wanted};
+use vs_rank::{Everyone, Key, Testing, Wanted};
 use vs_slot::Slot;
 use vs_unlink::Orphan;
 
@@ -164,6 +164,5 @@ pub fn relink<N: Nodes, L: Ledger>(
     ensures top { OnOk result (IsEntry (overwritten edit.new (N.at graph.now.nodes)) (Some entry)) }
     ensures kept { OnOk result ((layer : ℕ) → KeepsLinked (links_at (overwritten edit.old (N.at graph.now.nodes)) layer) (links_at (overwritten edit.new (N.at graph.now.nodes)) layer)) }
 {
-    let everyone = |_attr: Option<&[u8]>| true;
-    rejoin(alloc, edit, graph, entry, orphan, ef, everyone, slot, reads)
+    rejoin(alloc, edit, graph, entry, orphan, ef, Everyone, slot, reads)
 }

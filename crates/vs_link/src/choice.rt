@@ -11,7 +11,7 @@ ghost use Rattle.vs_link.specs.Selected.{is_shadowed, selected};
 
 use std::alloc::Global;
 use std::sync::ledger::Ledger;
-use vs_graph::{Edit, Nodes, Steps, live_node};
+use vs_graph::{Edit, Nodes, Steps};
 use vs_hamming::distance;
 use vs_outside::{List, NoMemory};
 use vs_rank::Key;
@@ -27,7 +27,7 @@ fn words<'a, N: Nodes, L: Ledger>(
     ensures value { result.now ≡ words_at (body_at (overwritten edit.entry.now (N.at base.entry.now))) id }
     ensures told { reads.new ≡ reads.old + 1 }
 {
-    live_node(edit, base, id, reads).body.bits()
+    edit.words(base, id, reads)
 }
 
 /// Whether a chosen member is nearer to the candidate than the new member is.

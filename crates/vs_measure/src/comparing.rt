@@ -11,7 +11,7 @@ use std::sync::ledger::Ledger;
 use vs_bits::Bits;
 use vs_graph::{Graph, Nodes, Steps};
 use vs_outside::NoMemory;
-use vs_rank::{Testing, Wanted};
+use vs_rank::{Everyone, Testing, Wanted};
 use vs_slot::Slot;
 use vs_truth::nearest;
 
@@ -61,7 +61,7 @@ pub fn bounds<L: Ledger>(
 ) -> Result<Vec<u32>, NoMemory>
     requires { table.now.dim ≡ queries.now.dim }
 {
-    bounds_by(alloc, table, queries, |_attr: Option<&[u8]>| true, reads)
+    bounds_by(alloc, table, queries, Everyone, reads)
 }
 
 fn found_by<N: Nodes, F: Testing + Drop, L: Ledger>(
@@ -108,7 +108,7 @@ pub fn found<N: Nodes, L: Ledger>(
         queries.rows(),
         bounds,
         ef,
-        |_attr: Option<&[u8]>| true,
+        Everyone,
         slot,
         reads,
     )

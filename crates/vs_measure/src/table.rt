@@ -7,7 +7,7 @@ use std::sync::ledger::Ledger;
 use vs_bits::Bits;
 use vs_graph::Steps;
 use vs_outside::{List, Text};
-use vs_truth::Members;
+use vs_truth::{Members, Run};
 
 /// A member's name and its vector.
 #[derive(Drop)]
@@ -67,6 +67,10 @@ impl Members for Table {
     fn bits<L: Ledger>(&self, place: u32, reads: &mut Steps<L>) -> &[u64] {
         reads.tick();
         self.rows.as_slice()[place as usize].bits.words()
+    }
+
+    fn beside<L: Ledger>(&self, _place: u32, _most: u32, _reads: &mut Steps<L>) -> Run {
+        Run::none()
     }
 
     fn name(&self, place: u32) -> &[u8] {

@@ -4,3 +4,5 @@ pub mod Listings
 pub mod Below
 pub mod FirstItems
 pub mod Puts
+pub mod Chunks
+pub mod Words

@@ -2,3 +2,5 @@ pub mod Tree
 pub mod Changes
 pub mod PagedNodes
 pub mod FirstItems
+pub mod Rows
+pub mod PagedWords

@@ -18,7 +18,7 @@ fn member(alloc: Global, word: u64) -> Result<Node, NoMemory> {
     })
 }
 
-/// The first word of the member at an id.
+/// The first word of the member at an id, where it is told as the node has it.
 fn word_by<L: Ledger>(nodes: &PageNodes, id: u32, blank: Blank) -> Option<u64>
     requires name { blank.name ≡ L.name }
     requires parts { blank.parts ≡ L.parts }
@@ -26,7 +26,11 @@ fn word_by<L: Ledger>(nodes: &PageNodes, id: u32, blank: Blank) -> Option<u64>
 {
     let mut reads = Steps::<L>::new(blank);
     match nodes.get(id, &mut reads) {
-        Some(node) => node.body.bits().first().copied(),
+        Some(node) => {
+            let word = node.body.bits().first().copied();
+            let told = nodes.words(id, &mut reads).first().copied();
+            if word == told { word } else { None }
+        }
         None => None,
     }
 }

@@ -20,7 +20,7 @@ use vs_bits::Bits;
 use vs_command::{Answer, Search, What};
 use vs_graph::{Nodes, Steps};
 use vs_outside::{List, NoMemory};
-use vs_rank::{Testing, Wanted};
+use vs_rank::{Everyone, Testing, Wanted};
 use vs_set::Snap;
 use vs_slot::Slot;
 use vs_truth::{Hit, nearest};
@@ -68,10 +68,7 @@ fn hits_of<N: Nodes, L: Ledger>(
     ensures { IfOk result (λ hits. HasHits (search_of search.now) search.now.filter snap.now query.now hits (reads.new - reads.old)) }
 {
     match &search.filter {
-        None => {
-            let any = |_: Option<&[u8]>| true;
-            hits_by(alloc, snap, search, query, any, slot, reads)
-        }
+        None => hits_by(alloc, snap, search, query, Everyone, slot, reads),
         Some(filter) => {
             let by_filter = |attr: Option<&[u8]>| filter.passes(attr);
             hits_by(alloc, snap, search, query, by_filter, slot, reads)

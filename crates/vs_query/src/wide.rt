@@ -20,7 +20,7 @@ use vs_bits::Bits;
 use vs_command::{Answer, Search, What};
 use vs_graph::{Nodes, Steps};
 use vs_outside::{List, NoMemory};
-use vs_rank::{Testing, Wanted};
+use vs_rank::{Everyone, Testing, Wanted};
 use vs_set::Snap;
 use vs_truth::{Hit, nearest_in_pieces};
 
@@ -58,7 +58,7 @@ fn hits_of<N: Nodes + Sync>(
     ensures { IfOk result (λ hits. HasHits (search_of search.now) search.now.filter snap.now query.now hits 0) }
 {
     match &search.filter {
-        None => hits_by(rt, alloc, snap, search, query, |_: Option<&[u8]>| true),
+        None => hits_by(rt, alloc, snap, search, query, Everyone),
         Some(filter) => {
             let by_filter = |attr: Option<&[u8]>| filter.passes(attr);
             hits_by(rt, alloc, snap, search, query, by_filter)

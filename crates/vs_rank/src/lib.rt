@@ -12,7 +12,7 @@ mod wanted;
 
 pub use best::Best;
 pub use frontier::Frontier;
-pub use testing::Testing;
+pub use testing::{Everyone, Testing};
 pub use wanted::Wanted;
 
 /// A distance and an id, ordered by distance, then id.

@@ -1,5 +1,5 @@
 //! A test of attributes beside the predicate that it answers.
-ghost use Rattle.std.specs.Prelude.{◌≡◌, Bool};
+ghost use Rattle.std.specs.Prelude.{◌≡◌, Bool, true, IsTrue};
 ghost use Rattle.std.specs.Option.{option_copied};
 ghost use mathlib.Core.HProp.{IsProp-prop};
 ghost use Rattle.vs_rank.specs.Tests.{Attribute, Answers, AnswersOne};
@@ -29,5 +29,12 @@ impl<F: Testing> Wanted<F> {
         ensures { (passes : Attribute → Bool) → Answers (F.gives self.now.test) passes → result ≡ passes (option_copied attr.entry) }
     {
         self.test.test(attr)
+    }
+
+    /// Whether all are known to pass, so that no attribute has to be looked at.
+    pub fn is_everyone(&self) -> bool
+        ensures { IsTrue result → (passes : Attribute → Bool) → Answers (F.gives self.now.test) passes → (attr : Attribute) → passes attr ≡ true }
+    {
+        self.test.is_everyone()
     }
 }

@@ -151,8 +151,8 @@ impl Decoder {
         self.ready.pop_front()
     }
 
-    /// Takes a message back that was answered: words of later messages use the memory of its words, within bounds. It takes no
-    /// memory, and changes no answer.
+    /// Takes a message back that was answered: later messages use the memory of its words and of its list of words, within bounds. It
+    /// takes no memory, and changes no answer.
     pub fn take_back(&mut self, message: List<Text>)
         ensures stands { (fed : Bytes) (given : List Message) → Stands self.old fed given → Stands self.new fed given }
         ensures failure { failure self.new ≡ failure self.old }

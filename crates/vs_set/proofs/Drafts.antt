@@ -1,12 +1,13 @@
 -- A set after the commit of a draft.
 --     kept_committed      it is kept
+--     rows_committed      and so are its rows
 --     commits             it is what the definitions make of it
-use Rattle.std.proofs.Common.{◌≡◌, ℕ, ◌+◌, List, [], ◌∷◌, ◌++◌, refl, sym, ap, ◌∙◌, subst, arith, is_some}
-use Rattle.std.specs.Prelude.{None, option_map}
+use Rattle.std.proofs.Common.{◌≡◌, ℕ, ◌+◌, List, [], ◌∷◌, ◌++◌, length, refl, sym, ap, ◌∙◌, subst, arith, is_some}
+use Rattle.std.specs.Prelude.{Some, None, option_map}
 use Rattle.std.specs.declared.option.Option.{Option}
 use Rattle.std.proofs.lemmas.List.{map-append}
 use Rattle.vs_defs.specs.Bytes.{Bytes}
-use Rattle.vs_defs.specs.Words.{bits_of_words}
+use Rattle.vs_defs.specs.Words.{FitsDimension, bits_of_words}
 use Rattle.vs_defs.specs.Store.{Member, with_member}
 use Rattle.vs_defs.specs.PlainStep.{attr_after}
 use Rattle.vs_defs.specs.Insertion.{IsLinkedBy}
@@ -18,11 +19,17 @@ use Rattle.vs_insert.specs.declared.draft.Draft.{Draft}
 use Rattle.vs_insert.specs.Added.{IsAdded, entry_after}
 use Rattle.vs_insert.specs.Drafts.{names_down}
 use Rattle.vs_order.specs.Entries.{Entries, ids_of}
-use Rattle.vs_set.specs.Kept.{set_by, AreNamed, IsKept, one_if}
+use Rattle.vs_page.specs.Rows.{IsPut, row_at}
+use Rattle.vs_page.specs.declared.rows.Rows.{Rows}
+use Rattle.vs_insert.specs.Chosen.{drafted_member}
+use Rattle.vs_set.specs.Kept.{set_by, AreNamed, IsKept, AreRowsOf, KeepRows, one_if}
 use Rattle.vs_set.specs.Drafted.{Commits}
 use Rattle.vs_set.specs.Retaken.{retaken_draft}
 use Rattle.vs_set.proofs.Growth.{named_grown, counted_grown}
 use Rattle.vs_set.proofs.Retaking.{down_same}
+use Rattle.vs_set.proofs.Members.{counted}
+use Rattle.vs_set.proofs.Standing.{keeps_bits}
+use Rattle.vs_set.proofs.Telling.{rows_pushed}
 
 module _ {N : Type 0} (at : N → ℕ → Option Node) (s t : Seen N) (id : ℕ) (attr : Option Attr) (draft : Draft) (entries : Entries) (added : IsAdded (at s.nodes) (at t.nodes) s.entry s.m s.dim id attr (retaken_draft entries draft))
     (named : AreNamed (at s.nodes) entries) where
@@ -43,6 +50,16 @@ module _ {N : Type 0} (at : N → ℕ → Option Node) (s t : Seen N) (id : ℕ)
         same = refl;
         counted = omega (arith, is_n, kept.counted, counted_grown (at s.nodes) (at t.nodes) s.entry s.m s.dim id attr (retaken_draft entries draft) added entries named free);
       })))
+
+  pub rows_committed : (before rows : Rows) (n : ℕ) → KeepRows (at s.nodes) s.dim entries before → n ≡ length entries → IsPut (row_at before) (row_at rows) n (Some draft.body.bits) → FitsDimension s.dim draft.body.bits
+      → t.dim ≡ s.dim → (after : Entries) → after ≡ all → KeepRows (at t.nodes) t.dim after rows
+  rows_committed before rows n keep last put fits dim_is after is_after =
+      let ms = members_of (at s.nodes) s.dim (ids_of entries) in
+      let x = drafted_member s.dim attr (retaken_draft entries draft) in
+      subst (λ d. KeepRows (at t.nodes) d after rows) (sym dim_is)
+      (subst (λ es. KeepRows (at t.nodes) s.dim es rows) (sym is_after)
+      (subst (AreRowsOf (row_at rows)) (sym (ap (members_of (at t.nodes) s.dim) ids_all ∙ added.members (ids_of entries) named.ids))
+      (rows_pushed (row_at before) (row_at rows) ms keep x n draft.body.bits (last ∙ sym (counted (at s.nodes) s.m s.dim entries)) put (keeps_bits s.dim draft.body.bits fits))))
 
   pub commits : (text : Option Bytes) → option_map (λ (a : Attr). a.text) attr ≡ attr_after text None → t.entry ≡ entry_after (at s.nodes) s.entry id draft.level → (cut : ℕ)
       → Commits draft text (set_by (at s.nodes) s.entry s.m s.dim cut entries) (set_by (at t.nodes) t.entry s.m s.dim cut all)

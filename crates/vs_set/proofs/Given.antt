@@ -2,7 +2,7 @@
 --     names_given            each name is as it was
 --     counted_given          how many members have an attribute then
 --     with_none              an attribute for a name that is no member's changes nobody
---     kept_given, set_given, counts      the set after it
+--     kept_given, rows_kept, set_given, counts      the set after it
 use Rattle.std.proofs.Common.{◌≡◌, ℕ, ◌+◌, ◌≤◌, Bool, true, false, cond, List, [], ◌∷◌, refl, sym, ap, ◌∙◌, arith, subst, get_or, is_some, inl, inr}
 use Rattle.std.specs.Prelude.{IsSome, option_map, Some, None}
 use Rattle.std.specs.Option.{option_map_or}
@@ -17,7 +17,10 @@ use Rattle.vs_graph.specs.Attribute.{ChangesAttr, with_attribute}
 use Rattle.vs_graph.specs.Seen.{Seen}
 use Rattle.vs_graph.specs.Standing.{AreIds, member_of_node, member_at, members_of, name_of}
 use Rattle.vs_order.specs.Entries.{Entries, ids_of, id_of}
-use Rattle.vs_set.specs.Kept.{set_by, AreNamed, IsKept, attribute_count, one_if}
+use Rattle.vs_page.specs.Rows.{row_at}
+use Rattle.vs_page.specs.declared.rows.Rows.{Rows}
+use Rattle.vs_set.proofs.Telling.{rows_given}
+use Rattle.vs_set.specs.Kept.{set_by, AreNamed, IsKept, AreRowsOf, KeepRows, attribute_count, one_if}
 use Rattle.vs_set.specs.Changed.{attributed}
 use Rattle.vs_set.specs.Given.{IsGiven}
 use Rattle.vs_set.proofs.Counting.{has_attr, count_has, count_one}
@@ -74,6 +77,12 @@ module _ {N : Type 0} (at : N → ℕ → Option Node) (s t : Seen N) (id : ℕ)
       let members : members_of (at t.nodes) t.dim ids ≡ with_attr name (attr_after text None) (members_of (at s.nodes) s.dim ids)
       = ap (λ d. members_of (at t.nodes) d ids) g.dim ∙ g.members ids named.ids ∙ ap (λ n. with_attr n (attr_after text None) (members_of (at s.nodes) s.dim ids)) is in
       λ i. record { contents = record { dim = g.dim i; m = g.m i; cut = cut; members = members i }; wiring = g.wiring ids i }
+
+  pub rows_kept : (rows : Rows) → KeepRows (at s.nodes) s.dim entries rows → KeepRows (at t.nodes) t.dim entries rows
+  rows_kept rows keep =
+      subst (λ d. KeepRows (at t.nodes) d entries rows) (sym g.dim)
+      (subst (AreRowsOf (row_at rows)) (sym (g.members (ids_of entries) named.ids))
+      (rows_given (row_at rows) (name_of (at s.nodes) id) (attr_after text None) (members_of (at s.nodes) s.dim (ids_of entries)) keep))
 
   pub kept_given : (order : Entries) (attributes n : ℕ) → IsKept (at s.nodes) s.dim entries order attributes → n + one_if had ≡ attributes + one_if has → IsKept (at t.nodes) t.dim entries order n
   kept_given order attributes n kept is =

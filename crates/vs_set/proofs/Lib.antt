@@ -16,3 +16,5 @@ pub mod Prepared
 pub mod Firsts
 pub mod Nearness
 pub mod Around
+pub mod Telling
+pub mod FirstRows

@@ -3,6 +3,7 @@
 --     counted_after                   how many of them have an attribute
 --     low, id_there, named_there      the place of a name: its id, and its name in the graph
 --     removes, kept_out, counts       the set after it
+--     rows_out                        its rows
 use Rattle.std.proofs.Common.{◌≡◌, ◌≢◌, ℕ, ◌<◌, ◌≤◌, ◌+◌, Bool, true, false, ◌||◌, List, [], ◌∷◌, length, refl, sym, ap, ◌∙◌, arith, is_some, subst, inl, inr, get_or}
 use Rattle.std.specs.Prelude.{All, nat_eq, Option, Some, IsSome, IsSomeAnd, slice_get, swap_remove}
 use Rattle.std.specs.Map.{keys_of}
@@ -31,14 +32,17 @@ use Rattle.vs_unlink.specs.Unlinked.{IsWithout}
 use Rattle.vs_unlink.proofs.Bare.{live_bare}
 use Rattle.vs_unlink.proofs.Leavings.{same_member_by}
 use Rattle.vs_order.specs.Entries.{Entries, ids_of, place_of, without_place}
+use Rattle.vs_page.specs.Rows.{IsPut, row_at}
+use Rattle.vs_page.specs.declared.rows.Rows.{Rows}
 use Rattle.vs_order.proofs.FreeIds.{goes_out}
 use Rattle.vs_order.proofs.Places.{swap_map, swap_default}
 use Rattle.vs_set.specs.Again.{IsOut}
 use Rattle.vs_set.specs.Changed.{RemovesMember}
-use Rattle.vs_set.specs.Kept.{set_by, AreNamed, IsKept, attribute_count, one_if}
+use Rattle.vs_set.specs.Kept.{set_by, AreNamed, IsKept, AreRowsOf, KeepRows, attribute_count, one_if}
 use Rattle.vs_set.proofs.Growth.{name_kept, entry_live}
 use Rattle.vs_set.proofs.Places.{is_same, others as no_other, removed_at}
 use Rattle.vs_set.proofs.Counting.{has_attr, same_members}
+use Rattle.vs_set.proofs.Telling.{rows_removed}
 
 module _ (at new : ℕ → Option Node) (dim : ℕ) (entries : Entries) (named : AreNamed at entries) (place x : ℕ) (low : place < length entries) (is_x : get_or (ids_of entries) place x ≡ x) (gone : IsWithout at new x) where
   abbrev ids : List ℕ
@@ -191,6 +195,15 @@ module _ {N : Type 0} (at : N → ℕ → Option Node) (s t : Seen N) (x : ℕ) 
         subst (λ n. Removes (set_by (at s.nodes) s.entry s.m s.dim cut0 entries) n (wiring_of (at t.nodes) t.entry (ids_of (without_place place entries))))
         (named_there name entries place is_place x is_id (at s.nodes) named) (out.removes cut0 (ids_of entries) (ids_of (without_place place entries)) named.ids named_out.ids);
   }
+
+  pub rows_out : (before_rows rows : Rows) (last : ℕ) → KeepRows (at s.nodes) s.dim entries before_rows → last + 1 ≡ length entries → IsPut (row_at before_rows) (row_at rows) place (row_at before_rows last)
+      → (after : Entries) → after ≡ without_place place entries → KeepRows (at t.nodes) t.dim after rows
+  rows_out before_rows rows last keep end put after is_after =
+      let long : length before ≡ length entries = omega (arith, length-map (ids_of entries) (member_at (at s.nodes) s.dim), length-map entries (λ (e : Bytes × ℕ). e.1)) in
+      subst (λ d. KeepRows (at t.nodes) d after rows) (sym out.dim)
+      (subst (λ es. KeepRows (at t.nodes) s.dim es rows) (sym is_after)
+      (subst (AreRowsOf (row_at rows)) (sym (members_after (at s.nodes) (at t.nodes) s.dim entries named place x there id_here out.gone))
+      (rows_removed (row_at before_rows) (row_at rows) before keep place last (omega (arith, there, long)) (omega (arith, end, long)) put)))
 
   module _ (had : Bool) (had_is : had ≡ is_some gone_member.attr) where
     counted_out : attribute_count (members_of (at t.nodes) s.dim (ids_of (without_place place entries))) + one_if had ≡ attribute_count before

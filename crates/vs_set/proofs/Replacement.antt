@@ -1,6 +1,7 @@
 -- A replaced member of a set: what was taken out of the graph of ids and added to it again is the definitions' replacement.
 --     replaced           the addition of a name that is a member
 --     named_replaced     the entries are those before
+--     rows_again         its rows
 --     counted_replaced   how many members have an attribute
 use Rattle.std.proofs.Common.{◌≡◌, ℕ, ◌+◌, ◌≤◌, Bool, false, List, [], ◌∷◌, refl, sym, ap, ◌∙◌, subst, arith, is_some, get_or, inl, inr}
 use Rattle.std.specs.Prelude.{Some, None, IsSomeAnd, option_map}
@@ -21,13 +22,17 @@ use Rattle.vs_graph.specs.Table.{without}
 use Rattle.vs_graph.specs.Standing.{AreIds, member_at, member_of_node, members_of, name_of, set_of, wiring_of}
 use Rattle.vs_insert.proofs.AddedAgain.{ids_again, members_again}
 use Rattle.vs_insert.proofs.Leavings.{ids_left, members_left}
-use Rattle.vs_order.specs.Entries.{Entries, ids_of, id_of}
-use Rattle.vs_set.specs.Kept.{set_by, AreNamed, IsKept, attribute_count, one_if}
+use Rattle.vs_order.specs.Entries.{Entries, ids_of, id_of, place_of}
+use Rattle.vs_page.specs.Rows.{IsPut, row_at}
+use Rattle.vs_page.specs.declared.rows.Rows.{Rows}
+use Rattle.vs_truth.specs.Nearest.{KeepsBits}
+use Rattle.vs_set.specs.Kept.{set_by, AreNamed, IsKept, AreRowsOf, KeepRows, attribute_count, one_if}
 use Rattle.vs_set.specs.Changed.{AddsMember}
 use Rattle.vs_set.specs.Grown.{IsGrown, text_of}
 use Rattle.vs_set.specs.Again.{IsReplaced}
 use Rattle.vs_laws.proofs.Options.{is_some_of_map}
-use Rattle.vs_set.proofs.Members.{found}
+use Rattle.vs_set.proofs.Members.{found, place_is}
+use Rattle.vs_set.proofs.Telling.{rows_replaced}
 use Rattle.vs_set.proofs.Growth.{name_kept, there_name}
 use Rattle.vs_set.proofs.Added.{name_is, same_member, inserts_at}
 use Rattle.vs_set.proofs.Counting.{count_replaced, count_has}
@@ -146,3 +151,12 @@ module _ {N : Type 0} (at : N → ℕ → Option Node) (s t : Seen N) (x : ℕ) 
         same = kept.same;
         counted = omega (arith, is, kept.counted, counted_replaced at s t x add level had has r entries kept.named found_as named);
       })
+
+  pub rows_again : (before rows : Rows) (n : ℕ) (words : List ℕ) → KeepRows (at s.nodes) s.dim entries before → place_of add.name entries ≡ Some n → IsPut (row_at before) (row_at rows) n (Some words) → KeepsBits add.bits words
+      → KeepRows (at t.nodes) t.dim entries rows
+  rows_again before rows n words keep place put keeps =
+      let ms = members_of (at s.nodes) s.dim (ids_of entries) in
+      let y = added_member add level (text_of r.attr) in
+      subst (λ d. KeepRows (at t.nodes) d entries rows) (sym (r.grown.inserted.dim ∙ r.out.dim))
+      (subst (AreRowsOf (row_at rows)) (sym (members_replaced at s t x add level had has r named (ids_of entries) kept.named.ids))
+      (rows_replaced (row_at before) (row_at rows) ms keep y n words (sym (place_is (at s.nodes) s.m s.dim add.name entries kept.named.names) ∙ place) put keeps))

@@ -2,15 +2,19 @@
 --     set_by at entry m dim cut entries      the set that contracts see
 --     AreNamed at entries                    the entries are the live ids with the names of their members
 --     IsKept                                 what holds of a set that is kept
+--     KeepRows at dim entries rows           where the rows tell words at a member's place, they keep the member's bits
 --     IsSound x                              what holds of a set that contracts see
-use Rattle.std.specs.Prelude.{◌≡◌, ◌≤◌, ◌^◌, ℕ, Bool, cond, List, length, All, count_by, is_some}
+use Rattle.std.specs.Prelude.{◌≡◌, ◌<◌, ◌≤◌, ◌^◌, ℕ, Bool, cond, List, length, slice_index_or, All, IfSome, count_by, is_some}
 use Rattle.std.specs.declared.option.Option.{Option}
 use Rattle.vs_defs.specs.Store as model
-use Rattle.vs_defs.specs.Store.{Member}
+use Rattle.vs_defs.specs.Store.{Member, no_member}
 use Rattle.vs_defs.specs.Good.{Good}
 use Rattle.vs_graph.specs.declared.node.Node.{Node}
 use Rattle.vs_graph.specs.Standing.{AreIds, members_of, name_of, set_of}
 use Rattle.vs_order.specs.Entries.{Entries, ids_of}
+use Rattle.vs_page.specs.Rows.{row_at}
+use Rattle.vs_page.specs.declared.rows.Rows.{Rows}
+use Rattle.vs_truth.specs.Nearest.{KeepsBits}
 
 abbrev pub set_by : (ℕ → Option Node) → Option ℕ → (m dim cut : ℕ) → Entries → model.Set
 set_by at entry m dim cut entries = set_of at entry m dim cut (ids_of entries)
@@ -31,6 +35,13 @@ pub record IsKept (at : ℕ → Option Node) (dim : ℕ) (entries order : Entrie
   pub named : AreNamed at entries
   pub same : order ≡ entries
   pub counted : attributes ≡ attribute_count (members_of at dim (ids_of entries))
+
+-- where words are told at a member's place, they keep its bits
+abbrev pub AreRowsOf : (ℕ → Option (List ℕ)) → List Member → Type 0
+AreRowsOf rows members = (k : ℕ) → k < length members → IfSome (rows k) (λ words. KeepsBits (slice_index_or members k no_member).bits words)
+
+abbrev pub KeepRows : (at : ℕ → Option Node) (dim : ℕ) → Entries → Rows → Type 0
+KeepRows at dim entries rows = AreRowsOf (row_at rows) (members_of at dim (ids_of entries))
 
 -- the set is good, and its numbers are within bounds
 pub record IsSound (x : model.Set) : Type 0 where

@@ -8,3 +8,4 @@ pub mod Again
 pub mod Given
 pub mod Retaken
 pub mod Firsts
+pub mod Listed

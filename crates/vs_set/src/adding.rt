@@ -85,10 +85,12 @@ impl<N: Nodes> Set<N> {
             slot,
             &mut reads,
         )?;
+        let count = self.names.len();
         self.names.push(name);
         self.order = order;
         self.cut = cut;
         self.attributes = count_after(self.attributes, false, has);
+        self.rows.put(count, Some(add.bits.words()));
         Ok(())
     }
 
@@ -114,6 +116,9 @@ impl<N: Nodes> Set<N> {
         let Some(id) = self.names.id_of(add.name.as_slice()) else {
             unreachable!();
         };
+        let Some(place) = self.names.place_of(add.name.as_slice()) else {
+            unreachable!();
+        };
         let _members = self.names.len();
         let mut reads = Steps::<L>::new(blank);
         let Replaced { graph, had, has } = replace_member(
@@ -128,6 +133,7 @@ impl<N: Nodes> Set<N> {
         self.graph = graph;
         self.cut = cut;
         self.attributes = count_after(self.attributes, had, has);
+        self.rows.put(place, Some(add.bits.words()));
         Ok(())
     }
 }

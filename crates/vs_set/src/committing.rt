@@ -82,6 +82,8 @@ impl<N: Nodes> Set<N> {
             &self.order,
             draft.body.name(),
         )?;
+        // what is told behind the last member is asked for only once there is one
+        self.rows.put(self.names.len(), Some(draft.body.bits()));
         let draft = retake(self.alloc, &self.names, draft);
         let _nodes = self.graph.nodes();
         commit(self.alloc, &mut self.graph, draft, id, attr, reads)?;

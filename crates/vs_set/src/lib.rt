@@ -9,6 +9,7 @@ mod drafting;
 mod error;
 mod finding;
 mod growing;
+mod listing;
 mod placing;
 mod reading;
 mod removing;

@@ -1,4 +1,5 @@
-//! The members of a snapshot by their places. A member's name and its place are found without its node.
+//! The members of a snapshot by their places. A member's name, its place and mostly its words are found without its
+//! node, and an exact search goes over the words of a chunk row by row.
 ghost use Rattle.std.specs.Prelude.{◌≡◌, ◌<◌, ◌+◌, Some, IsSome, IsSomeAnd, length, option_map, position, slice_get};
 ghost use Rattle.std.specs.Option.{option_copied};
 ghost use Rattle.vs_defs.specs.Beam.{level_at};
@@ -9,7 +10,7 @@ use crate::Snap;
 use std::marker::Brand;
 use std::sync::ledger::{Blank, Ledger};
 use vs_graph::{Graph, Node, Nodes, Steps};
-use vs_truth::Members;
+use vs_truth::{Members, Run};
 
 /// The node of a live id.
 pub(crate) fn node_at<'a, N: Nodes, L: Ledger>(
@@ -48,9 +49,27 @@ impl<N: Nodes> Members for Snap<N> {
     }
 
     fn bits<L: Ledger>(&self, place: u32, reads: &mut Steps<L>) -> &[u64] {
-        node_at(&self.graph, self.order.id_at(place), reads)
-            .body
-            .bits()
+        match self.rows.get(place) {
+            Some(words) => {
+                reads.tick();
+                words
+            }
+            None => node_at(&self.graph, self.order.id_at(place), reads)
+                .body
+                .bits(),
+        }
+    }
+
+    fn beside<L: Ledger>(&self, place: u32, most: u32, reads: &mut Steps<L>) -> Run {
+        let run = self.rows.beside(place, most);
+        for _ in 0..run.rows {
+            reads.tick();
+        }
+        Run {
+            width: run.width,
+            rows: run.rows,
+            words: run.words,
+        }
     }
 
     fn name(&self, place: u32) -> &[u8] {

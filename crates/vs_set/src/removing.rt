@@ -54,7 +54,7 @@ impl<N: Nodes> Set<N> {
         let Some(place) = self.names.place_of(name) else {
             return Ok(false);
         };
-        let _few = self.names.len();
+        let count = self.names.len();
         let id = self.order.id_at(place);
         let order = self.order.without(place)?;
         let had = take_out::<N, Brand>(self.alloc, &mut self.graph, id, slot, Blank::new(1))?;
@@ -62,6 +62,7 @@ impl<N: Nodes> Set<N> {
         self.order = order;
         self.cut = cut;
         self.attributes = count_after(self.attributes, had, false);
+        self.rows.take_to(self.alloc, count - 1, place);
         Ok(true)
     }
 }

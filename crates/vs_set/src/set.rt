@@ -11,6 +11,7 @@ use std::marker::Model;
 use vs_graph::{FreshNodes, Graph, Nodes};
 use vs_order::{Names, Order};
 use vs_outside::NoMemory;
+use vs_page::Rows;
 
 /// Members by their names, with the graph of their links. A new member goes last, a replaced one keeps its place, and the last one takes
 /// the place of a removed one. Contracts see no id.
@@ -24,17 +25,19 @@ pub struct Set<N: Nodes> {
     pub(crate) cut: u64,
     // how many members have an attribute
     pub(crate) attributes: u32,
+    // the words of the members by place, where they are told
+    pub(crate) rows: Rows,
 }
 
 impl<N: Nodes> Model for Set<N> {
     ghost use Rattle.vs_defs.specs.Store as model;
-    ghost use Rattle.vs_set.specs.Kept.{set_by, IsKept};
+    ghost use Rattle.vs_set.specs.Kept.{set_by, IsKept, KeepRows};
 
     ghost Value = { model.Set };
 
     ghost view = { λ s. set_by (N.at s.graph.nodes) s.graph.entry s.graph.m s.graph.dim s.cut s.names.entries };
 
-    ghost invariant = { λ s. IsKept (N.at s.graph.nodes) s.graph.dim s.names.entries s.order s.attributes };
+    ghost invariant = { λ s. IsKept (N.at s.graph.nodes) s.graph.dim s.names.entries s.order s.attributes × KeepRows (N.at s.graph.nodes) s.graph.dim s.names.entries s.rows };
 }
 
 impl<N: FreshNodes> Set<N> {
@@ -54,6 +57,7 @@ impl<N: FreshNodes> Set<N> {
             graph: Graph::new(nodes, m, dim),
             cut: 0,
             attributes: 0,
+            rows: Rows::new(alloc)?,
         })
     }
 }
@@ -120,6 +124,7 @@ impl<N: Nodes> Set<N> {
             order: self.order.try_clone()?,
             graph: self.graph.snapshot()?,
             cut: self.cut,
+            rows: self.rows.try_clone()?,
         })
     }
 }

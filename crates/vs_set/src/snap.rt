@@ -6,6 +6,7 @@ use std::alloc::Global;
 use std::marker::Model;
 use vs_graph::{Graph, Nodes};
 use vs_order::Order;
+use vs_page::Rows;
 
 /// The members and the graph of a set as they stood when it was taken.
 #[derive(Drop)]
@@ -14,17 +15,19 @@ pub struct Snap<N: Nodes> {
     pub(crate) order: Order,
     pub(crate) graph: Graph<N>,
     pub(crate) cut: u64,
+    // the words of the members by place, where they are told
+    pub(crate) rows: Rows,
 }
 
 impl<N: Nodes> Model for Snap<N> {
     ghost use Rattle.vs_defs.specs.Store as model;
-    ghost use Rattle.vs_set.specs.Kept.{set_by, AreNamed};
+    ghost use Rattle.vs_set.specs.Kept.{set_by, AreNamed, KeepRows};
 
     ghost Value = { model.Set };
 
     ghost view = { λ s. set_by (N.at s.graph.nodes) s.graph.entry s.graph.m s.graph.dim s.cut s.order };
 
-    ghost invariant = { λ s. AreNamed (N.at s.graph.nodes) s.order };
+    ghost invariant = { λ s. AreNamed (N.at s.graph.nodes) s.order × KeepRows (N.at s.graph.nodes) s.graph.dim s.order s.rows };
 }
 
 impl<N: Nodes> Snap<N> {

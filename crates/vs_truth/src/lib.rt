@@ -6,6 +6,7 @@ mod members;
 mod nearest_heap;
 mod pieces;
 mod rows;
+mod run;
 mod scan;
 #[cfg(test)]
 mod tests;
@@ -15,4 +16,5 @@ pub use members::Members;
 pub use nearest_heap::NearestHeap;
 pub use pieces::{LEAST_IN_PIECES, nearest_in_pieces};
 pub use rows::{Row, nearest_wide};
+pub use run::Run;
 pub use scan::{hits_of, nearest};

@@ -2,8 +2,9 @@
 ghost use Rattle.std.specs.Prelude.{◌≡◌, ◌+◌, ◌≤◌, ◌<◌, List, length, slice_get, IsSomeAnd};
 ghost use Rattle.std.specs.Option.{option_copied};
 ghost use Rattle.vs_defs.specs.Store.{Member};
-ghost use Rattle.vs_truth.specs.Nearest.{KeepsBits};
+ghost use Rattle.vs_truth.specs.Nearest.{KeepsBits, AreRunOf};
 
+use crate::Run;
 use std::sync::ledger::Ledger;
 use vs_graph::Steps;
 
@@ -19,6 +20,14 @@ pub trait Members {
         requires { place < length (members self.now) }
         ensures kept { IsSomeAnd (slice_get (members self.now) place) (λ member. KeepsBits member.bits result.now) }
         ensures told { reads.new ≤ reads.old + 1 };
+
+    /// The words of the members from a place on, of at most `most` of them, as far as they lie beside one another: of none where that is
+    /// not known. Each row is a read.
+    fn beside<L: Ledger>(&self, place: u32, most: u32, reads: &mut Steps<L>) -> Run
+        requires { place + most ≤ length (members self.now) }
+        ensures few { result.rows ≤ most }
+        ensures run { 0 < result.rows → AreRunOf (members self.now) place result }
+        ensures told { reads.new ≤ reads.old + result.rows };
 
     fn name(&self, place: u32) -> &[u8]
         requires { place < length (members self.now) }

@@ -9,7 +9,7 @@ ghost use Rattle.vs_truth.specs.Nearest.{AreHits, nearest_passing};
 ghost use Rattle.vs_truth.specs.RowMembers.{members_of_rows};
 
 use crate::pieces::nearest_in_pieces;
-use crate::{Hit, Members};
+use crate::{Hit, Members, Run};
 use std::alloc::Global;
 use std::sync::ledger::Ledger;
 use std::thread::Threads;
@@ -46,6 +46,10 @@ impl<'a> Members for Rows<'a> {
     fn bits<L: Ledger>(&self, place: u32, reads: &mut Steps<L>) -> &[u64] {
         reads.tick();
         self.rows[place as usize].body.bits()
+    }
+
+    fn beside<L: Ledger>(&self, _place: u32, _most: u32, _reads: &mut Steps<L>) -> Run {
+        Run::none()
     }
 
     fn name(&self, place: u32) -> &[u8] {

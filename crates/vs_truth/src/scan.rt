@@ -1,15 +1,15 @@
 //! Exact search: one scan over all members, in any order of their distances.
-ghost use Rattle.std.specs.Prelude.{◌≡◌, ◌+◌, ◌-◌, ◌<◌, ◌≤◌, Bool, if◌then◌else◌, Option, length, map, take, slice_get, All, IfOk, IsSomeAnd};
+ghost use Rattle.std.specs.Prelude.{◌≡◌, ◌+◌, ◌-◌, ◌^◌, ◌<◌, ◌≤◌, ℕ, Bool, if◌then◌else◌, Option, length, map, take, slice_get, All, IfOk, IsSomeAnd};
 ghost use Rattle.vs_defs.specs.Bytes.{Bytes, place_by};
 ghost use Rattle.vs_defs.specs.FilterText.{passes_filter};
 ghost use Rattle.vs_defs.specs.Truth as truth;
 ghost use Rattle.vs_rank.specs.Tests.{Attribute, Answers};
-ghost use Rattle.vs_truth.specs.Nearest.{AreHits, nearest_passing};
+ghost use Rattle.vs_truth.specs.Nearest.{AreHits, AreRunOf, nearest_passing};
 ghost use Rattle.vs_truth.specs.Nears.{near_cmp, firsts, nears_between, candidate_hit};
 
 use crate::candidate::Candidate;
 use crate::nearest_heap::NearestHeap;
-use crate::{Hit, Members};
+use crate::{Hit, Members, Run};
 use std::alloc::{AllocError, Global};
 use std::ops::Range;
 use std::sync::ledger::Ledger;
@@ -43,6 +43,49 @@ fn offer_member<'a, M: Members, F: Testing>(
     }
 }
 
+/// The members from a place on whose words lie beside one another, or the one there.
+fn run_at<'a, M: Members, L: Ledger>(
+    members: &'a M,
+    place: u32,
+    most: u32,
+    reads: &mut Steps<L>,
+) -> Run<'a>
+    requires some { 0 < most }
+    requires within { place + most ≤ length (M.members members.now) }
+    ensures some { 0 < result.rows }
+    ensures few { result.rows ≤ most }
+    ensures run { AreRunOf (M.members members.entry.now) place result }
+    ensures told { reads.new ≤ reads.old + result.rows }
+{
+    let run = members.beside(place, most, reads);
+    if run.rows > 0 {
+        return run;
+    }
+    Run::one(members.bits(place, reads))
+}
+
+/// Offers the members of a run that pass.
+fn offer_run<'a, M: Members, F: Testing>(
+    few: &mut NearestHeap<'a>,
+    members: &'a M,
+    place: u32,
+    run: &Run,
+    query: &Bits,
+    wanted: &Wanted<F>,
+)
+    requires fits { All (λ member. length member.bits ≡ length query.now) (M.members members.now) }
+    requires run { AreRunOf (M.members members.now) place run.now }
+    requires last { place + run.now.rows < 2 ^ 32 }
+    ensures most { few.new.most ≡ few.old.most }
+    ensures offered { (passes : Attribute → Bool) → Answers (F.gives wanted.now.test) passes → (from : ℕ) → from ≤ place → few.old.nears ≡ firsts few.old.most (nears_between passes query.now (M.members members.entry.now) from place) → few.new.nears ≡ firsts few.old.most (nears_between passes query.now (M.members members.entry.now) from (place + run.now.rows)) }
+{
+    let words = query.words();
+    for row in 0..run.rows {
+        let dist = distance(words, run.row(row));
+        offer_member(few, members, place + row, dist, wanted);
+    }
+}
+
 /// The first `most` of the members at a range of places that pass.
 pub(crate) fn first_passing<'a, M: Members, F: Testing, L: Ledger>(
     alloc: Global,
@@ -59,14 +102,15 @@ pub(crate) fn first_passing<'a, M: Members, F: Testing, L: Ledger>(
     ensures nears { IfOk result (λ few. (passes : Attribute → Bool) → Answers (F.gives wanted.now.test) passes → few.nears ≡ firsts most (nears_between passes query.now (M.members members.entry.now) places.start places.end)) }
     ensures told { reads.new ≤ reads.old + (places.end - places.start) }
 {
-    let words = query.words();
     let from = places.start;
     let to = places.end;
     let room = most.min(to - from);
     let mut few = NearestHeap::new(alloc, room)?;
-    for place in from..to {
-        let dist = distance(words, members.bits(place, reads));
-        offer_member(&mut few, members, place, dist, wanted);
+    let mut place = from;
+    while place < to {
+        let run = run_at(members, place, to - place, reads);
+        offer_run(&mut few, members, place, &run, query, wanted);
+        place += run.rows;
     }
     Ok(few)
 }

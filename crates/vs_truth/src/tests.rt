@@ -3,7 +3,7 @@ ghost use Rattle.std.specs.Prelude.{◌≡◌, ◌<◌, length, nat_le, false, A
 ghost use Rattle.std.specs.Option.{option_map_or, option_copied};
 ghost use Rattle.vs_rank.specs.Tests.{AnswersOne};
 
-use crate::{Hit, Members, nearest};
+use crate::{Hit, Members, Run, nearest};
 use std::alloc::Global;
 use std::marker::Brand;
 use std::sync::ledger::{Blank, Ledger};
@@ -40,6 +40,10 @@ impl Members for Table {
     fn bits<L: Ledger>(&self, place: u32, reads: &mut Steps<L>) -> &[u64] {
         reads.tick();
         self.rows[place as usize].bits.words()
+    }
+
+    fn beside<L: Ledger>(&self, _place: u32, _most: u32, _reads: &mut Steps<L>) -> Run {
+        Run::none()
     }
 
     fn name(&self, place: u32) -> &[u8] {

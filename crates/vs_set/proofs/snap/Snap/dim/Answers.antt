@@ -7,4 +7,4 @@ pub returns-clause-sound : goal.returns-clause-sound
 returns-clause-sound g c =
     let s = c.self.inside in
     subst IsSound c.self.view_is
-    (sound (g.N.Nodes.at s.graph.nodes) s.graph.m s.graph.dim s.graph.entry s.cut s.order c.nodes-nodes.ensures.good c.self.invariant (omega (arith, c.len-count.ensures.few, c.len-count.ensures.value)))
+    (sound (g.N.Nodes.at s.graph.nodes) s.graph.m s.graph.dim s.graph.entry s.cut s.order c.nodes-nodes.ensures.good c.self.invariant.0 (omega (arith, c.len-count.ensures.few, c.len-count.ensures.value)))

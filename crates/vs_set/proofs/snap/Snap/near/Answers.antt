@@ -12,7 +12,7 @@ use Rattle.vs_set.proofs.snap.Snap.near.Goals as goal
 pub unreachable-requires : goal.unreachable-requires
 unreachable-requires g c =
     let s = c.self.inside in
-    nobody (g.N.Nodes.at s.graph.nodes) s.graph.dim (ids_of s.order) c.self.invariant.ids c.in-None.ensures.none.1 (subst (λ x. 0 < length x.contents.members) (sym c.self.view_is) c.requires.some)
+    nobody (g.N.Nodes.at s.graph.nodes) s.graph.dim (ids_of s.order) c.self.invariant.0.ids c.in-None.ensures.none.1 (subst (λ x. 0 < length x.contents.members) (sym c.self.view_is) c.requires.some)
 
 pub first_hits-requires : goal.first_hits-requires
 first_hits-requires g c =
@@ -23,7 +23,7 @@ first_hits-requires g c =
     let fits : FitsDimension s.graph.dim words = subst (λ n. FitsDimension n words) dim c.words-words.ensures.fits in
     subst (λ l. All (λ key. is_taken key.id s.order ≡ true) l) (sym c.as_slice.ensures)
     (λ k d h. settled _ c.args.wanted.now.answers
-    (λ known. found_taken (g.N.Nodes.at s.graph.nodes) s.graph.entry s.graph.m s.graph.dim c.nodes-nodes.ensures.good words fits s.order c.self.invariant c.in-Some.descent.start c.max.result c.args.effort known.0 b.tried b.expanded b.found
+    (λ known. found_taken (g.N.Nodes.at s.graph.nodes) s.graph.entry s.graph.m s.graph.dim c.nodes-nodes.ensures.good words fits s.order c.self.invariant.0 c.in-Some.descent.start c.max.result c.args.effort known.0 b.tried b.expanded b.found
     (c.in_ok-beam.ensures.beam known.0 known.1) k d h))
 
 pub returns : goal.returns
@@ -39,6 +39,6 @@ returns g c = λ passes answers.
     let reads = c.beam.new.reads - c.args.reads.now in
     subst (λ x. FindsNear x c.args.query.now c.args.count c.args.ef c.args.effort passes hits reads) c.self.view_is
     (subst (λ v. FindsNear (set_by (g.N.Nodes.at s.graph.nodes) s.graph.entry s.graph.m s.graph.dim s.cut s.order) v c.args.count c.args.ef c.args.effort passes hits reads) value
-    (near_found (g.N.Nodes.at s.graph.nodes) s.graph.entry s.graph.m s.graph.dim c.nodes-nodes.ensures.good words fits s.order c.self.invariant d.start c.max.result c.args.effort passes b.tried b.expanded b.found
+    (near_found (g.N.Nodes.at s.graph.nodes) s.graph.entry s.graph.m s.graph.dim c.nodes-nodes.ensures.good words fits s.order c.self.invariant.0 d.start c.max.result c.args.effort passes b.tried b.expanded b.found
     (c.in_ok-beam.ensures.beam passes answers) s.cut d.top d.at c.args.count c.args.ef hits reads c.max.ensures c.in-Some.ensures.named (c.in_ok-beam.ensures.named passes answers)
     (c.in_ok-hits.ensures ∙ ap (λ l. first_of s.order c.args.count l) c.as_slice.ensures) (omega (arith, c.descend.ensures.told, c.in_ok-beam.ensures.told))))

@@ -7,5 +7,5 @@ use Rattle.vs_set.proofs.snap.Snap.place_of.Goals as goal
 pub returns : goal.returns
 returns g c =
     let s = c.self.inside in
-    c.place_of_name.ensures ∙ place_is (g.N.Nodes.at s.graph.nodes) s.graph.m s.graph.dim c.args.name.now s.order c.self.invariant.names
+    c.place_of_name.ensures ∙ place_is (g.N.Nodes.at s.graph.nodes) s.graph.m s.graph.dim c.args.name.now s.order c.self.invariant.0.names
     ∙ ap (λ x. position (is_of_name c.args.name.now) x.contents.members) c.self.view_is
