@@ -11,8 +11,6 @@ pub enum MeasureError {
     BadWords,
     #[error("a number is none, or out of its bounds")]
     BadNumber,
-    #[error("the lines are: grow, search, set, set held, change, change held, snapshot")]
-    BadLine,
     #[error("more than 1,048,576 members")]
     TooMany,
     #[error("two members of one name")]

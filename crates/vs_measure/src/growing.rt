@@ -23,7 +23,7 @@ pub struct Growth<N: Nodes> {
 }
 
 /// The level of a new member by a random word.
-pub fn level_of_word(word: u32) -> u8
+fn level_of_word(word: u32) -> u8
     ensures level { result ≡ level_of word }
     ensures bound { result ≤ 15 }
 {

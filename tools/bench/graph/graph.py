@@ -4,39 +4,66 @@
 Both programs generate the same vectors, grow a graph of them, and then search in turn, round after round.
 """
 import argparse
+import os
 import statistics
-import sys
+import subprocess
 import tempfile
-
-sys.dont_write_bytecode = True
-
-from running import Running, peer_in
 
 EFS = [100, 200, 400]
 M, EF_CONSTRUCTION, SEED = 16, 200, 0
+# Blocks from this size on are given back to the system where they are freed, so that the resident memory is what is held.
+ENVIRONMENT = {**os.environ, 'MALLOC_MMAP_THRESHOLD_': '65536', 'MALLOC_TRIM_THRESHOLD_': '65536'}
 
-class Program(Running):
-    """One of the two programs: what it told so far, and by how much its resident memory grew while the graph was grown."""
+
+class Program:
+    """One of the two programs: what it told so far, and its resident memory before and after the graph was grown."""
 
     def __init__(self, binary, kind, members, dim, searches):
-        super().__init__(binary, kind, members, dim, M, EF_CONSTRUCTION, SEED, searches, *EFS)
-        self.wanted = searches * min(10, members)
+        words = [kind, members, dim, M, EF_CONSTRUCTION, SEED, searches, *EFS]
+        self.members, self.wanted = members, searches * min(10, members)
+        self.process = subprocess.Popen(
+            [binary, *map(str, words)], stdin=subprocess.PIPE, stdout=subprocess.PIPE, stderr=subprocess.PIPE, text=True, env=ENVIRONMENT
+        )
+        self.line_with('generated')
         before = self.resident_bytes()
-        self.ask('grow')
+        self.step()
         self.insertions = self.number_of('insertions a second')
         self.bytes = (self.resident_bytes() - before) / members
         self.searches = {ef: [] for ef in EFS}
         self.found = {}
 
+    def step(self):
+        self.process.stdin.write('on\n')
+        self.process.stdin.flush()
+
+    def line_with(self, text):
+        line = self.process.stderr.readline()
+        if text not in line:
+            self.process.kill()
+            raise SystemExit(f'{self.process.args[0]} wrote {line!r} in place of {text!r}')
+        return line
+
+    def resident_bytes(self):
+        for line in open(f'/proc/{self.process.pid}/status'):
+            if line.startswith('VmRSS'):
+                return int(line.split()[1]) * 1024
+        raise SystemExit('no VmRSS')
+
+    def number_of(self, text):
+        return int(self.line_with(text).split()[-1])
+
     def round(self):
-        self.ask('search')
+        self.step()
         for ef in EFS:
             self.searches[ef].append(self.number_of(f'ef {ef} searches a second'))
         self.line_with('searched')
 
     def end(self):
         """Ends the program, and reads how many of the nearest it found."""
-        for line in super().end().splitlines()[1:]:
+        output, _ = self.process.communicate()
+        if self.process.returncode != 0:
+            raise SystemExit(f'{self.process.args[0]} ended with status {self.process.returncode}')
+        for line in output.splitlines()[1:]:
             _, ef, _, found = line.split()
             self.found[int(ef)] = int(found)
 
@@ -81,7 +108,9 @@ def main():
     args = parser.parse_args()
     cases = args.cases or [case_of(it) for it in ['uniform:256', 'clustered:768', 'clustered:1024', 'clustered:1536', 'clustered:3072']]
     with tempfile.TemporaryDirectory() as folder:
-        peer = peer_in(folder, args.flags)
+        peer = os.path.join(folder, 'peer')
+        source = os.path.join(os.path.dirname(os.path.abspath(__file__)), 'peer.cpp')
+        subprocess.run(['g++', '-std=c++17', *args.flags.split(), '-o', peer, source], check=True)
         print(f'M {M}, efConstruction {EF_CONSTRUCTION}, {args.searches} searches a round, {args.rounds} rounds: ours, hnswlib')
         for kind, dim in cases:
             compare(args.binary, peer, kind, dim, args)
