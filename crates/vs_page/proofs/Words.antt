@@ -9,7 +9,8 @@ use Rattle.std.proofs.lemmas.Bool.{cases_eq}
 use Rattle.std.proofs.lemmas.Option.{none-some, same_Some, IfSome_then}
 use Rattle.vs_graph.specs.declared.node.Node.{Node}
 use Rattle.vs_page.specs.declared.rows.Rows.{Rows}
-use Rattle.vs_page.specs.Rows.{IsPut, row_at}
+use Rattle.vs_page.specs.Rows.{IsPut}
+use Rattle.vs_page.specs.Told.{row_at}
 use Rattle.std.proofs.lemmas.Bool.{eqb-true}
 use Rattle.std.specs.Option.{option_or}
 use Rattle.vs_page.specs.Changes.{says}

@@ -5,7 +5,7 @@ use Rattle.std.specs.Prelude.{◌≡◌, ℕ, List, Some, IfSome}
 use Rattle.std.specs.declared.option.Option.{Option}
 use Rattle.vs_graph.specs.declared.node.Node.{Node}
 use Rattle.vs_page.specs.declared.rows.Rows.{Rows}
-use Rattle.vs_page.specs.Rows.{row_at}
+use Rattle.vs_page.specs.Told.{row_at}
 
 abbrev pub TellsAt : Rows → (ℕ → Option Node) → ℕ → Type 0
 TellsAt rows nodes id = (node : Node) (words : List ℕ) → nodes id ≡ Some node → row_at rows id ≡ Some words → words ≡ node.body.bits

@@ -2,13 +2,10 @@
 --     IsWritten old new start row      a row is written over the words from a place on, or behind the last of them
 --     row_in width words row           a row of a chunk, which has its rows one after another
 --     row_of width chunks place        the row at a place of chunks of 256 rows
---     row_at rows place                the words that are told at a place, or nothing
 --     row_of_run run k                 a row of rows that lie beside one another
 --     IsPut old new place words        another store tells these words at the place, or nothing, and elsewhere what the old one told, or nothing
 use Rattle.std.specs.Prelude.{◌≡◌, ◌≢◌, ◌≤◌, ◌+◌, ◌*◌, ◌/◌, ◌%◌, ◌++◌, ℕ, List, Some, None, IfSome, cond, nat_le, length, take, drop}
 use Rattle.std.specs.declared.option.Option.{Option}
-use Rattle.vs_page.specs.Changes.{items_of}
-use Rattle.vs_page.specs.declared.rows.Rows.{Rows}
 use Rattle.vs_page.specs.declared.rows.Run.{Run}
 
 pub record IsWritten (old new : List ℕ) (start : ℕ) (row : List ℕ) : Type 0 where
@@ -24,9 +21,6 @@ row_in_chunk width (Some words) row = row_in width words row
 
 abbrev pub row_of : (width : ℕ) → (ℕ → Option (List ℕ)) → (place : ℕ) → Option (List ℕ)
 row_of width chunks place = row_in_chunk width (chunks (place / 256)) (place % 256)
-
-abbrev pub row_at : Rows → (place : ℕ) → Option (List ℕ)
-row_at rows place = cond rows.is_lost None (row_of rows.width (items_of rows.chunks) place)
 
 abbrev pub row_of_run : Run → (k : ℕ) → List ℕ
 row_of_run run k = take run.width (drop (k * run.width) run.words.now)

@@ -3,7 +3,7 @@
 ghost use Rattle.std.specs.Prelude.{◌≡◌, ◌≢◌, ◌<◌, ◌≤◌, ◌+◌, ◌*◌, ℕ, None, Some, [], IfOk, IfSome, OnOk, length, unwrap_or};
 ghost use Rattle.std.specs.Option.{option_copied};
 ghost use Rattle.vs_page.specs.Changes.{items_of};
-ghost use Rattle.vs_page.specs.Rows.{IsWritten, IsPut, row_in, row_of, row_at, row_of_run};
+ghost use Rattle.vs_page.specs.Rows.{IsWritten, IsPut, row_in, row_of, row_of_run};
 
 use crate::PageMap;
 use crate::chunk::Chunk;
@@ -150,6 +150,8 @@ fn put_in(
 }
 
 impl Rows {
+    ghost use Rattle.vs_page.specs.Told.{row_at};
+
     /// No rows.
     pub fn new(alloc: Global) -> Result<Rows, NoMemory>
         ensures { IfOk result (λ rows. (q : ℕ) → row_at rows q ≡ None) }

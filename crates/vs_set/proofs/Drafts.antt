@@ -19,7 +19,8 @@ use Rattle.vs_insert.specs.declared.draft.Draft.{Draft}
 use Rattle.vs_insert.specs.Added.{IsAdded, entry_after}
 use Rattle.vs_insert.specs.Drafts.{names_down}
 use Rattle.vs_order.specs.Entries.{Entries, ids_of}
-use Rattle.vs_page.specs.Rows.{IsPut, row_at}
+use Rattle.vs_page.specs.Rows.{IsPut}
+use Rattle.vs_page.specs.Told.{row_at}
 use Rattle.vs_page.specs.declared.rows.Rows.{Rows}
 use Rattle.vs_insert.specs.Chosen.{drafted_member}
 use Rattle.vs_set.specs.Kept.{set_by, AreNamed, IsKept, AreRowsOf, KeepRows, one_if}

@@ -17,7 +17,7 @@ use Rattle.vs_graph.specs.Attribute.{ChangesAttr, with_attribute}
 use Rattle.vs_graph.specs.Seen.{Seen}
 use Rattle.vs_graph.specs.Standing.{AreIds, member_of_node, member_at, members_of, name_of}
 use Rattle.vs_order.specs.Entries.{Entries, ids_of, id_of}
-use Rattle.vs_page.specs.Rows.{row_at}
+use Rattle.vs_page.specs.Told.{row_at}
 use Rattle.vs_page.specs.declared.rows.Rows.{Rows}
 use Rattle.vs_set.proofs.Telling.{rows_given}
 use Rattle.vs_set.specs.Kept.{set_by, AreNamed, IsKept, AreRowsOf, KeepRows, attribute_count, one_if}

@@ -9,7 +9,8 @@ use Rattle.vs_graph.specs.declared.node.Node.{Node}
 use Rattle.vs_graph.specs.Seen.{Seen}
 use Rattle.vs_graph.specs.Standing.{members_of}
 use Rattle.vs_order.specs.Entries.{Entries, ids_of}
-use Rattle.vs_page.specs.Rows.{IsPut, row_at}
+use Rattle.vs_page.specs.Rows.{IsPut}
+use Rattle.vs_page.specs.Told.{row_at}
 use Rattle.vs_page.specs.declared.rows.Rows.{Rows}
 use Rattle.vs_truth.specs.Nearest.{KeepsBits}
 use Rattle.vs_defs.specs.Store.{Member}

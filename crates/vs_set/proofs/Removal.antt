@@ -32,7 +32,8 @@ use Rattle.vs_unlink.specs.Unlinked.{IsWithout}
 use Rattle.vs_unlink.proofs.Bare.{live_bare}
 use Rattle.vs_unlink.proofs.Leavings.{same_member_by}
 use Rattle.vs_order.specs.Entries.{Entries, ids_of, place_of, without_place}
-use Rattle.vs_page.specs.Rows.{IsPut, row_at}
+use Rattle.vs_page.specs.Rows.{IsPut}
+use Rattle.vs_page.specs.Told.{row_at}
 use Rattle.vs_page.specs.declared.rows.Rows.{Rows}
 use Rattle.vs_order.proofs.FreeIds.{goes_out}
 use Rattle.vs_order.proofs.Places.{swap_map, swap_default}

@@ -23,7 +23,8 @@ use Rattle.vs_graph.specs.Standing.{AreIds, member_at, member_of_node, members_o
 use Rattle.vs_insert.proofs.AddedAgain.{ids_again, members_again}
 use Rattle.vs_insert.proofs.Leavings.{ids_left, members_left}
 use Rattle.vs_order.specs.Entries.{Entries, ids_of, id_of, place_of}
-use Rattle.vs_page.specs.Rows.{IsPut, row_at}
+use Rattle.vs_page.specs.Rows.{IsPut}
+use Rattle.vs_page.specs.Told.{row_at}
 use Rattle.vs_page.specs.declared.rows.Rows.{Rows}
 use Rattle.vs_truth.specs.Nearest.{KeepsBits}
 use Rattle.vs_set.specs.Kept.{set_by, AreNamed, IsKept, AreRowsOf, KeepRows, attribute_count, one_if}

@@ -12,7 +12,7 @@ use Rattle.vs_defs.specs.Good.{Good}
 use Rattle.vs_graph.specs.declared.node.Node.{Node}
 use Rattle.vs_graph.specs.Standing.{AreIds, members_of, name_of, set_of}
 use Rattle.vs_order.specs.Entries.{Entries, ids_of}
-use Rattle.vs_page.specs.Rows.{row_at}
+use Rattle.vs_page.specs.Told.{row_at}
 use Rattle.vs_page.specs.declared.rows.Rows.{Rows}
 use Rattle.vs_truth.specs.Nearest.{KeepsBits}
 

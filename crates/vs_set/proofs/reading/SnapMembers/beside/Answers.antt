@@ -3,7 +3,8 @@ use Rattle.std.specs.Prelude.{IsSomeAnd, slice_get}
 use Rattle.vs_truth.specs.Nearest.{KeepsBits}
 use Rattle.vs_graph.specs.Standing.{members_of}
 use Rattle.vs_order.specs.Entries.{ids_of}
-use Rattle.vs_page.specs.Rows.{row_at, row_of_run}
+use Rattle.vs_page.specs.Rows.{row_of_run}
+use Rattle.vs_page.specs.Told.{row_at}
 use Rattle.vs_set.proofs.Telling.{told}
 use Rattle.vs_set.proofs.reading.SnapMembers.beside.Goals as goal
 

@@ -3,7 +3,7 @@ use Rattle.std.specs.Prelude.{IsSomeAnd, slice_get}
 use Rattle.vs_truth.specs.Nearest.{KeepsBits}
 use Rattle.vs_graph.specs.Standing.{member_of_node, members_of}
 use Rattle.vs_order.specs.Entries.{ids_of}
-use Rattle.vs_page.specs.Rows.{row_at}
+use Rattle.vs_page.specs.Told.{row_at}
 use Rattle.std.specs.Option.{option_copied}
 use Rattle.vs_set.proofs.Telling.{told}
 use Rattle.vs_set.proofs.Standing.{live_place, has, keeps_bits}

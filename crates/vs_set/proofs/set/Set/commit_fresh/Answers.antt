@@ -7,7 +7,8 @@ use Rattle.vs_insert.specs.Chosen.{AreChosenNames}
 use Rattle.vs_insert.specs.Drafts.{names_down}
 use Rattle.vs_defs.specs.Words.{FitsDimension}
 use Rattle.vs_order.specs.Entries.{ids_of, id_of}
-use Rattle.vs_page.specs.Rows.{IsPut, row_at}
+use Rattle.vs_page.specs.Rows.{IsPut}
+use Rattle.vs_page.specs.Told.{row_at}
 use Rattle.vs_set.specs.Kept.{set_by, one_if}
 use Rattle.vs_set.specs.Drafted.{Commits}
 use Rattle.vs_set.specs.Retaken.{retaken_draft}

@@ -1,5 +1,5 @@
 use Rattle.std.proofs.Common.{[], refl, sym, subst}
-use Rattle.vs_page.specs.Rows.{row_at}
+use Rattle.vs_page.specs.Told.{row_at}
 use Rattle.vs_set.specs.Kept.{IsKept, KeepRows}
 use Rattle.vs_set.proofs.Members.{named_empty}
 use Rattle.vs_set.proofs.Telling.{rows_none}

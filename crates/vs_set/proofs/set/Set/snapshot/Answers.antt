@@ -1,7 +1,7 @@
 use Rattle.std.proofs.Common.{◌≡◌, ◌∙◌}
 use Rattle.vs_graph.specs.Standing.{members_of}
 use Rattle.vs_order.specs.Entries.{ids_of}
-use Rattle.vs_page.specs.Rows.{row_at}
+use Rattle.vs_page.specs.Told.{row_at}
 use Rattle.vs_set.proofs.Sames.{named_same, rows_same_graph}
 use Rattle.vs_set.proofs.Telling.{rows_same}
 use Rattle.vs_set.proofs.set.Set.snapshot.Goals as goal
