@@ -1,11 +1,13 @@
 -- Rows in chunks of 256.
 --     row_here, row_there      a row that is written, and the others of its chunk
 --     put_chunk, put_nothing   what a store tells after a change of one chunk
-use Rattle.std.proofs.Common.{◌≡◌, ◌≢◌, ℕ, ◌<◌, ◌≤◌, ◌+◌, ◌-◌, ◌*◌, ◌/◌, ◌%◌, cond, List, [], ◌++◌, length, take, drop, refl, sym, ap, ◌∙◌, subst, arith, inl, inr, append_assoc, length-append, length-take-le}
-use Rattle.std.specs.Prelude.{Some, None, IfSome, nat_le, unwrap_or}
+--     put_seen                 a store that tells the same tells the same after a change
+--     ok_said                  what is said of a result that is no error
+use Rattle.std.proofs.Common.{◌≡◌, ◌≢◌, ℕ, ◌<◌, ◌≤◌, ◌+◌, ◌-◌, ◌*◌, ◌/◌, ◌%◌, cond, List, [], ◌++◌, false, Result, Ok, Err, length, take, drop, refl, sym, ap, ◌∙◌, subst, arith, inl, inr, append_assoc, length-append, length-take-le}
+use Rattle.std.specs.Prelude.{Some, None, IfSome, OnOk, is_err, nat_le, unwrap_or}
 use Rattle.std.specs.declared.option.Option.{Option}
 use Rattle.std.specs.Cmp.Derive.{one_truth}
-use Rattle.std.proofs.lemmas.Bool.{leb-true, le-leb, lt-leb, cases_eq, cases_lt}
+use Rattle.std.proofs.lemmas.Bool.{true≢false, leb-true, le-leb, lt-leb, cases_eq, cases_lt}
 use Rattle.std.proofs.lemmas.List.{length-drop, take-append-drop, take-append-le, take_at, drop_at, drop-append-le}
 use Rattle.std.proofs.lemmas.Slice.{drop-append-drop}
 use Rattle.std.proofs.lemmas.Nat.{mul-le, div-add-mod'}
@@ -127,3 +129,15 @@ module _ (w place : ℕ) (old new : ℕ → Option (List ℕ)) (others : (q : �
   put_chunk words taken None was is wide some written = put_nothing (Some words) is
   put_chunk words taken (Some chunk) was is wide some written =
       put_row words chunk is wide some (subst (λ o. IsWritten (unwrap_or o []) chunk (place % 256 * w) words) was written)
+
+-- ---- what rows tell, and what their chunks say
+
+pub put_seen : (old said told new : ℕ → Option (List ℕ)) (place : ℕ) (words : Option (List ℕ)) → ((q : ℕ) → said q ≡ old q) → ((q : ℕ) → new q ≡ told q) → IsPut said told place words → IsPut old new place words
+put_seen old said told new place words before after put = record {
+  there = subst (λ o. IfSome o (λ row. words ≡ Some row)) (sym (after place)) put.there;
+  others = λ q ne. subst (λ o. IfSome (new q) (λ row. o ≡ Some row)) (before q) (subst (λ o. IfSome o (λ row. said q ≡ Some row)) (sym (after q)) (put.others q ne));
+}
+
+pub ok_said : {T E : Type 0} (r : Result T E) (P : Type 0) → is_err r ≡ false → OnOk r P → P
+ok_said (Ok x) P is said = said
+ok_said (Err e) P is said = absurd (true≢false is)

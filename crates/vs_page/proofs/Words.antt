@@ -2,11 +2,13 @@
 --     put_here, put_there  after a node's words are put: of its id, and of the others
 --     told_after           after a publish
 --     next_listed          one change more, of which the id is listed or its words are told
-use Rattle.std.proofs.Common.{◌≡◌, ◌≢◌, ◌⊎◌, ◌++◌, ◌∷◌, [], ◌==◌, ℕ, Bool, true, false, List, Contains, cond, refl, sym, subst, ap, ◌∙◌, inl, inr}
+--     so_far, of_all       what holds of the ids of a list, one after another
+use Rattle.std.proofs.Common.{◌≡◌, ◌⊎◌, ◌++◌, ◌∷◌, [], ◌==◌, ◌<◌, ◌+◌, ℕ, Bool, true, false, List, Contains, cond, length, get_or, refl, sym, subst, ap, ◌∙◌, inl, inr, arith}
 use Rattle.std.specs.Prelude.{Some, None, IfSome, unwrap_or}
 use Rattle.std.specs.declared.option.Option.{Option}
 use Rattle.std.proofs.lemmas.Bool.{cases_eq}
-use Rattle.std.proofs.lemmas.Option.{none-some, same_Some, IfSome_then}
+use Rattle.std.proofs.lemmas.List.Elements.{at_from_Contains}
+use Rattle.std.proofs.lemmas.Option.{none-some, same_Some}
 use Rattle.vs_graph.specs.declared.node.Node.{Node}
 use Rattle.vs_page.specs.declared.rows.Rows.{Rows}
 use Rattle.vs_page.specs.Rows.{IsPut}
@@ -67,3 +69,15 @@ module _ (rows new : Rows) (before after : ℕ → Option Node) (id : ℕ) (unto
   told_after None is listed tells there others = others (λ node words has told. tells node words (sym is ∙ has) told)
   told_after (Some item) is (inl h) tells there others = there h
   told_after (Some item) is (inr same) tells there others = others (λ node words has told. told_already item node words same (sym is ∙ has) told)
+
+-- ---- the ids of a list
+
+module _ (P : ℕ → Type 0) (ids : List ℕ) where
+  pub so_far : (k : ℕ) → ((j : ℕ) → j < k → P (get_or ids j 0)) → P (get_or ids k 0) → (j : ℕ) → j < k + 1 → P (get_or ids j 0)
+  so_far k before here j less = elim (cases_eq j k) [
+    | inl e ↦ subst (λ n. P (get_or ids n 0)) (sym e) here
+    | inr ne ↦ before j (omega (arith, less, ne))
+  ]
+
+  pub of_all : ((j : ℕ) → j < length ids → P (get_or ids j 0)) → (q : ℕ) → Contains ids q → P q
+  of_all all q has = let place = at_from_Contains ids q has in subst P (place.2 0) (all place.0 place.1)

@@ -1,4 +1,4 @@
-use Rattle.std.proofs.Common.{◌≡◌, ◌+◌, suc, arith, ◌∷◌, [], ◌++◌, ◌∙◌, ap, sym, subst, take, ℕ, ◌⊎◌, Contains}
+use Rattle.std.proofs.Common.{◌≡◌, ◌+◌, suc, arith, ◌∷◌, [], ◌++◌, ◌∙◌, ap, sym, subst, take, ◌⊎◌, Contains}
 use Rattle.std.specs.Prelude.{IfSome}
 use Rattle.std.proofs.Math.Seq.{take-suc}
 use Rattle.vs_page.specs.Changes.{says}
