@@ -1,9 +1,9 @@
 -- Members whose words lie one after another, for the tests.
-use Rattle.std.proofs.Common.{◌≡◌, ℕ, ◌+◌, ◌<◌, ◌≤◌, List, [], ◌∷◌, ◌++◌, length, get_or, take, drop, refl, sym, ap, ◌∙◌, subst, arith}
+use Rattle.std.proofs.Common.{◌≡◌, ℕ, ◌+◌, ◌*◌, ◌<◌, ◌≤◌, List, [], ◌∷◌, ◌++◌, length, get_or, take, drop, refl, sym, ap, ◌∙◌, subst, arith}
 use Rattle.std.specs.Prelude.{Some, slice_get, IsSomeAnd}
 use Rattle.std.specs.List.{slice_index, range_with_len}
 use Rattle.std.proofs.lemmas.Option.{slice_get-get_or}
-use Rattle.std.proofs.lemmas.List.{take_more, get_or-drop, length-drop}
+use Rattle.std.proofs.lemmas.List.{take_more, get_or-drop, drop-drop, length-drop}
 use Rattle.std.proofs.lemmas.List.FromFn.{length-map-range_with_len, get_or-map-range_with_len}
 use Rattle.vs_defs.specs.Bytes.{Bytes}
 use Rattle.vs_defs.specs.Store.{Member}
@@ -41,3 +41,8 @@ one_word words k h =
 
 pub keeps_lined : (words : List ℕ) (k : ℕ) (own : List ℕ) → k < length words → own ≡ take 1 (drop k words) → KeepsBits (bits_of_words 64 (slice_index words k ∷ [])) own
 keeps_lined words k own h is = subst (KeepsBits (bits_of_words 64 (slice_index words k ∷ []))) (sym (is ∙ one_word words k h)) (keeps_word (slice_index words k))
+
+pub row_behind : (words : List ℕ) (place k : ℕ) (rest : List ℕ) → rest ≡ drop place words → take 1 (drop (k * 1) rest) ≡ take 1 (drop (place + k) words)
+row_behind words place k rest is =
+    let same : k * 1 ≡ k = omega arith in
+    ap (take 1) (ap (λ n. drop n rest) same ∙ ap (drop k) is ∙ drop-drop k place words)

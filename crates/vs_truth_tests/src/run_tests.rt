@@ -1,6 +1,7 @@
 //! Searches over members whose words lie beside one another, three at a time.
-ghost use Rattle.std.specs.Prelude.{◌≡◌, ◌<◌, [], ◌∷◌, length, IfOk};
+ghost use Rattle.std.specs.Prelude.{◌≡◌, ◌<◌, ◌≤◌, [], ◌∷◌, length, take, drop, IfOk};
 ghost use Rattle.vs_defs.specs.Words.{bits_of_words};
+ghost use Rattle.vs_rank.specs.Tests.{AnswersOne};
 
 use std::alloc::Global;
 use std::marker::Brand;
@@ -9,7 +10,7 @@ use std::test::Fail;
 use vs_bits::Bits;
 use vs_graph::Steps;
 use vs_outside::{List, NoMemory, Text};
-use vs_rank::{Everyone, Wanted};
+use vs_rank::{Everyone, Testing, Wanted};
 use vs_truth::{Hit, Members, Run, nearest};
 
 /// Seven members of 64 components. The words of the first three lie beside one another, those of the next three, and those of the last.
@@ -19,6 +20,22 @@ struct Lined {
     words: [u64; 7],
     ghost seven: { length names ≡ 7 },
     ghost alike: { length words ≡ 7 },
+}
+
+/// The word at a place.
+fn one_of(words: &[u64], at: usize) -> &[u64]
+    requires { at < length words.now }
+    ensures { result.now ≡ take 1 (drop at words.now) }
+{
+    &words[at..at + 1]
+}
+
+/// The words from a place on.
+fn from(words: &[u64], at: usize) -> &[u64]
+    requires { at ≤ length words.now }
+    ensures { result.now ≡ drop at words.now }
+{
+    &words[at..]
 }
 
 impl Members for Lined {
@@ -32,19 +49,15 @@ impl Members for Lined {
 
     fn bits<L: Ledger>(&self, place: u32, reads: &mut Steps<L>) -> &[u64] {
         reads.tick();
-        let at = place as usize;
-        &self.words[at..at + 1]
+        one_of(&self.words, place as usize)
     }
 
-    fn beside<L: Ledger>(&self, place: u32, most: u32, reads: &mut Steps<L>) -> Run {
-        let rows = most.min(3 - place % 3);
-        for _ in 0..rows {
-            reads.tick();
-        }
+    // Nobody counts the reads of these members.
+    fn beside<L: Ledger>(&self, place: u32, most: u32, _reads: &mut Steps<L>) -> Run {
         Run {
             width: 1,
-            rows,
-            words: &self.words[place as usize..],
+            rows: most.min(3 - place % 3),
+            words: from(&self.words, place as usize),
         }
     }
 
@@ -78,25 +91,29 @@ fn negative(alloc: Global) -> Result<Bits, NoMemory>
     Bits::from_words(alloc, 64, &[0])
 }
 
-/// The nearest to a vector without a positive component, and how many members were read at most.
-fn found<L: Ledger>(
+/// The nearest to a vector without a positive component.
+fn found<F: Testing + Drop, L: Ledger>(
     alloc: Global,
     table: &Lined,
     count: u32,
+    test: F,
     blank: Blank,
 ) -> Result<List<Hit>, NoMemory>
+    requires single { IsProp (F.ready test) }
+    requires callable { F.ready test }
+    requires answers { AnswersOne (F.gives test) }
     requires name { blank.name ≡ L.name }
     requires parts { blank.parts ≡ L.parts }
     requires some { 0 < L.parts }
 {
-    let wanted = Wanted::new(Everyone);
+    let wanted = Wanted::new(test);
     let query = negative(alloc)?;
     let mut reads = Steps::<L>::new(blank);
     nearest(alloc, table, &query, count, &wanted, &mut reads)
 }
 
 fn found_any(alloc: Global, table: &Lined, count: u32) -> Result<List<Hit>, NoMemory> {
-    found::<Brand>(alloc, table, count, Blank::new(1))
+    found::<_, Brand>(alloc, table, count, Everyone, Blank::new(1))
 }
 
 #[test]
