@@ -19,4 +19,6 @@ mod mixed;
 #[cfg(test)]
 mod serving;
 #[cfg(test)]
+mod sorted;
+#[cfg(test)]
 mod wide;

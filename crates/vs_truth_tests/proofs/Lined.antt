@@ -1,5 +1,5 @@
 -- Members whose words lie one after another, for the tests.
-use Rattle.std.proofs.Common.{◌≡◌, ℕ, ◌+◌, ◌*◌, ◌<◌, ◌≤◌, List, [], ◌∷◌, ◌++◌, length, get_or, take, drop, refl, sym, ap, ◌∙◌, subst, arith}
+use Rattle.std.proofs.Common.{◌≡◌, ℕ, ◌+◌, ◌*◌, ◌<◌, List, [], ◌∷◌, length, get_or, take, drop, sym, ap, ◌∙◌, subst, arith}
 use Rattle.std.specs.Prelude.{Some, slice_get, IsSomeAnd}
 use Rattle.std.specs.List.{slice_index, range_with_len}
 use Rattle.std.proofs.lemmas.Option.{slice_get-get_or}
