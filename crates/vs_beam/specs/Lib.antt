@@ -1,3 +1,4 @@
 pub mod Beam
+pub mod Begun
 pub mod Searching
 pub mod Named

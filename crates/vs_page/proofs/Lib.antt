@@ -1,4 +1,5 @@
 pub mod Trees
+pub mod Fours
 pub mod Entries
 pub mod Listings
 pub mod Below

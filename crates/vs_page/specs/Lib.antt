@@ -1,4 +1,5 @@
 pub mod Tree
+pub mod Four
 pub mod Changes
 pub mod PagedNodes
 pub mod FirstItems

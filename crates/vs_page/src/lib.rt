@@ -4,6 +4,7 @@
 mod chunk;
 mod copied;
 mod draining;
+mod four;
 mod opening;
 mod page_list;
 mod page_map;
@@ -15,6 +16,7 @@ mod reading;
 mod row_tests;
 mod rows;
 mod shared_list;
+mod shared_page;
 #[cfg(test)]
 mod tests;
 
