@@ -15,7 +15,7 @@ use Rattle.vs_beam.specs.declared.search.Search.{Search}
 use Rattle.vs_rank.specs.declared.Key.{Key}
 use Rattle.vs_rank.specs.Ranked.{is_beyond}
 use Rattle.vs_rank.specs.Tests.{Attribute}
-use Rattle.vs_beam.specs.Beam.{IsSpent, HasWords, key_at, attr_at}
+use Rattle.vs_beam.specs.Beam.{IsSpent, HasWords, key_at}
 use Rattle.vs_beam.specs.Searching.{IsSearchAt, AreFoundAt, IsWeighed, IsOffered, IsVisited, IsSameSearch, HasKept, unmarked}
 use Rattle.vs_beam.proofs.Steps.{tries, moves, tries_found, starts, starts_found}
 
@@ -109,7 +109,7 @@ module _ (at : ℕ → Option Node) (layer : ℕ) (query : List ℕ) where
       ]
 
   pub search_weighed : (old new : Search) (marks : Marks) (id place : ℕ)
-      → IsSearchAt at layer query old marks place → IsWeighed old new (key_at at query id) → place < length old.tried → get_or old.tried place 0 ≡ id
+      → IsSearchAt at layer query old marks place → IsWeighed at query old new id → place < length old.tried → get_or old.tried place 0 ≡ id
       → IsSearchAt at layer query new marks (place + 1)
   search_weighed old new marks id place h w below is =
       let key = key_at at query id in
@@ -161,7 +161,7 @@ module _ (at : ℕ → Option Node) (layer : ℕ) (query : List ℕ) (passes : A
           ]
 
   pub found_weighed : (old new : Search) (id place : ℕ)
-      → AreFoundAt at layer query passes old place → IsWeighed old new (key_at at query id) → IsOffered old new (key_at at query id) (passes (attr_at at id)) → place < length old.tried → get_or old.tried place 0 ≡ id
+      → AreFoundAt at layer query passes old place → IsWeighed at query old new id → IsOffered at query passes old new id → place < length old.tried → get_or old.tried place 0 ≡ id
       → AreFoundAt at layer query passes new (place + 1)
   found_weighed old new id place h w offered below is =
       let one_more : take (place + 1) new.tried ≡ take place old.tried ++ id ∷ [] = ap (take (place + 1)) w.kept.tried ∙ take_more old.tried place 0 below ∙ ap (λ x. take place old.tried ++ x ∷ []) is in
@@ -201,7 +201,7 @@ pub link_was_at : (items links : List ℕ) (w : ℕ) → items ≡ links → Con
 link_was_at items links w e has = subst (λ xs. Contains xs w) (sym e) has
 
 -- the frontier takes one key at most
-pub frontier_grown : (at : ℕ → Option Node) (query : List ℕ) (old new : Search) (id : ℕ) → IsWeighed old new (key_at at query id) → length new.frontier.keys ≤ length old.frontier.keys + 1
+pub frontier_grown : (at : ℕ → Option Node) (query : List ℕ) (old new : Search) (id : ℕ) → IsWeighed at query old new id → length new.frontier.keys ≤ length old.frontier.keys + 1
 frontier_grown at query old new id w =
     elim (w.placed) [
       | inl p ↦ omega (arith, length_permutation _ _ p)

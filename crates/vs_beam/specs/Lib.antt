@@ -1,4 +1,3 @@
 pub mod Beam
-pub mod Begun
 pub mod Searching
 pub mod Named

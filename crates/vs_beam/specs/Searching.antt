@@ -71,9 +71,9 @@ pub record IsStarted (s : Search) (start width limit : ℕ) : Type 0 where
   pub most : s.best.most ≡ width
   pub expanded : s.expanded ≡ []
 
--- a key was offered to the best, where it passes
-abbrev pub IsOffered : Search → Search → Key → Bool → Type 0
-IsOffered old new key passes = new.best.keys ≡ (if passes then take old.best.most (with_key old.best.keys key) else old.best.keys)
+-- an id was offered to the best, where it passes
+abbrev pub IsOffered : (ℕ → Option Node) → List ℕ → (Attribute → Bool) → Search → Search → ℕ → Type 0
+IsOffered at query passes old new id = new.best.keys ≡ (if passes (attr_at at id) then take old.best.most (with_key old.best.keys (key_at at query id)) else old.best.keys)
 
 -- what an offer leaves as it was
 pub record HasKept (old new : Search) : Type 0 where
@@ -87,10 +87,10 @@ pub record IsWaiting (old new : Search) (key : Key) : Type 0 where
   pub best : new.best ≡ old.best
   pub placed : IsPermutation (key ∷ old.frontier.keys) new.frontier.keys ⊎ ((new.frontier.keys ≡ old.frontier.keys) × (is_beyond old.best key ≡ true))
 
--- the same once it was offered to the best too, and what was beyond the best still is
-pub record IsWeighed (old new : Search) (key : Key) : Type 0 where
+-- the same of an id's key, and what was beyond the best still is
+pub record IsWeighed (at : ℕ → Option Node) (query : List ℕ) (old new : Search) (id : ℕ) : Type 0 where
   pub kept : HasKept old new
-  pub placed : IsPermutation (key ∷ old.frontier.keys) new.frontier.keys ⊎ ((new.frontier.keys ≡ old.frontier.keys) × (is_beyond new.best key ≡ true))
+  pub placed : IsPermutation (key_at at query id ∷ old.frontier.keys) new.frontier.keys ⊎ ((new.frontier.keys ≡ old.frontier.keys) × (is_beyond new.best (key_at at query id) ≡ true))
   pub beyond : (other : Key) → is_beyond old.best other ≡ true → is_beyond new.best other ≡ true
 
 -- the nearest id of the frontier is to be expanded

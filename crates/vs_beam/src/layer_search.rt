@@ -44,7 +44,7 @@ pub fn beam<N: Nodes, F: Testing, L: Ledger>(
     let mut search = Search::start(
         alloc, nodes, layer, from, query, ef, effort, wanted, slot, reads,
     )?;
-    let spent = search.run(alloc, nodes, layer, query, wanted, slot, reads)?;
+    let spent = search.run(nodes, layer, query, wanted, slot, reads)?;
     let Search {
         from: _,
         effort: _,

@@ -1,7 +1,7 @@
 //! The loop of a search of one layer. What it keeps: the tried members are distinct, were reached by links from the start, and are marked
 //! in the slot; each tried one is expanded, in the frontier or beyond the worst of a full list of the best; the best are the nearest tried ones
 //! that pass. It expands the nearest one first and stops where that one is beyond.
-use crate::looking::{Begun, begin, finish, look};
+use crate::looking::look;
 use crate::steps_nearer::links;
 use std::alloc::Global;
 use std::sync::ledger::Ledger;
@@ -22,12 +22,11 @@ pub struct Search {
 }
 
 impl Search {
-    ghost use Rattle.std.specs.Prelude.{◌≡◌, ℕ, ◌+◌, ◌^◌, ◌<◌, ◌≤◌, ◌↔◌, Bool, true, [], length, drop, IsSome, IfSome, IfNone, IfOk, OnOk, All, Contains, IsTrue};
+    ghost use Rattle.std.specs.Prelude.{◌≡◌, ℕ, ◌+◌, ◌^◌, ◌<◌, ◌≤◌, ◌↔◌, Bool, [], length, drop, IsSome, IfSome, IfNone, IfOk, OnOk, All, Contains, IsTrue};
     ghost use Rattle.vs_slot.specs.Marks.{Marks, IsEmptied};
     ghost use Rattle.vs_graph.specs.Good.{IsLinked, StandsAt, links_at};
     ghost use Rattle.vs_rank.specs.Tests.{Attribute, Answers};
     ghost use Rattle.vs_beam.specs.Beam.{HasWords, IsSpent, IsBeam};
-    ghost use Rattle.vs_beam.specs.Begun.{AreBegun};
     ghost use Rattle.vs_beam.specs.Searching.{IsSearch, IsSearchAt, AreFound, AreFoundAt, AreFoundBy, IsStarted, IsWaiting, IsWeighed, IsOffered, HasKept, IsAdvanced, IsOver, IsSameSearch, IsVisited, IsExpanded, size_left, expansion_cost};
 
     /// A search that tried the id where it starts.
@@ -65,7 +64,7 @@ impl Search {
             frontier: Frontier::new(alloc),
         };
         search.tried.push(from)?;
-        search.offer_from(alloc, nodes, 0, query, wanted, reads)?;
+        search.offer_from(nodes, 0, query, wanted, reads)?;
         Ok(search)
     }
 
@@ -87,94 +86,35 @@ impl Search {
         }
     }
 
-    /// Offers a key to the frontier, and to the best where it passes.
-    fn offer(&mut self, key: Key, passes: bool)
+    /// Takes the distance of an id that was tried, and offers it to the frontier and to the best.
+    fn offer<N: Nodes, F: Testing, L: Ledger>(
+        &mut self,
+        nodes: &N,
+        id: u32,
+        query: &[u64],
+        wanted: &Wanted<F>,
+        reads: &mut Steps<L>,
+    )
+        requires few { length query.now ≤ 512 }
+        requires live { HasWords (N.at nodes.now) (length query.now) id }
         requires frontier_room { 0 < self.old.frontier.spare }
         requires best_room { 0 < self.old.best.spare }
-        ensures weighed { IsWeighed self.old self.new key }
-        ensures offered { IsOffered self.old self.new key passes }
+        ensures weighed { IsWeighed (N.at nodes.now) query.now self.old self.new id }
+        ensures offered { (passes : Attribute → Bool) → Answers (F.gives wanted.now.test) passes → IsOffered (N.at nodes.now) query.now passes self.old self.new id }
         ensures frontier_room { self.old.frontier.spare ≤ self.new.frontier.spare + 1 }
         ensures best_room { self.old.best.spare ≤ self.new.best.spare + 1 }
+        ensures told { reads.new ≤ reads.old + 1 }
     {
+        let (key, passes) = look(nodes, id, query, wanted, reads);
         self.wait(key);
         if passes {
             self.best.offer(key);
         }
     }
 
-    /// Begins the distances of the ids that were tried from a place on: the first words of all are read before the rest of any, so that
-    /// a processor fetches them at once.
-    fn begin_from<'a, N: Nodes, L: Ledger>(
-        &self,
-        alloc: Global,
-        nodes: &'a N,
-        start: usize,
-        query: &[u64],
-        reads: &mut Steps<L>,
-    ) -> Result<Vec<Begun<'a>>, NoMemory>
-        requires few { length query.now ≤ 512 }
-        requires live { All (HasWords (N.at nodes.now) (length query.now)) (drop start self.now.tried) }
-        requires within { start ≤ length self.now.tried }
-        ensures begun { IfOk result (λ begun. AreBegun (N.at nodes.entry.now) query.now (drop start self.now.tried) begun.items) }
-        ensures told { reads.new + start ≤ reads.old + length self.now.tried }
-    {
-        let mut begun = Vec::with_capacity(alloc, self.tried.len() - start)?;
-        for place in start..self.tried.len() {
-            begun.push(begin(nodes, self.tried.as_slice()[place], query, reads))?;
-        }
-        Ok(begun)
-    }
-
-    /// Ends the distances that were begun, of the ids that were tried from a place on, and offers them: all pass.
-    fn offer_begun<N: Nodes>(&mut self, nodes: &N, begun: &[Begun<'_>], start: usize, query: &[u64])
-        requires few { length query.now ≤ 512 }
-        requires within { start ≤ length self.old.tried }
-        requires begun { AreBegun (N.at nodes.now) query.now (drop start self.old.tried) begun.now }
-        requires frontier_room { length self.old.tried ≤ start + self.old.frontier.spare }
-        requires best_room { length self.old.tried ≤ start + self.old.best.spare }
-        ensures kept { HasKept self.old self.new }
-        ensures search { (layer : ℕ) (marks : Marks) → IsSearchAt (N.at nodes.now) layer query.now self.old marks start → IsSearch (N.at nodes.now) layer query.now self.new marks }
-        ensures found { (layer : ℕ) (passes : Attribute → Bool) → ((attr : Attribute) → passes attr ≡ true) → AreFoundAt (N.at nodes.now) layer query.now passes self.old start → AreFound (N.at nodes.now) layer query.now passes self.new }
-        ensures frontier { length self.new.frontier.keys + start ≤ length self.old.frontier.keys + length self.old.tried }
-    {
-        for place in start..self.tried.len() {
-            let id = self.tried.as_slice()[place];
-            let key = finish(nodes, id, &begun[place - start], query);
-            self.offer(key, true);
-        }
-    }
-
-    /// Looks at the ids that were tried from a place on, one after another, and offers them.
-    fn offer_looked<N: Nodes, F: Testing, L: Ledger>(
-        &mut self,
-        nodes: &N,
-        start: usize,
-        query: &[u64],
-        wanted: &Wanted<F>,
-        reads: &mut Steps<L>,
-    )
-        requires few { length query.now ≤ 512 }
-        requires live { All (HasWords (N.at nodes.now) (length query.now)) (drop start self.old.tried) }
-        requires within { start ≤ length self.old.tried }
-        requires frontier_room { length self.old.tried ≤ start + self.old.frontier.spare }
-        requires best_room { length self.old.tried ≤ start + self.old.best.spare }
-        ensures kept { HasKept self.old self.new }
-        ensures search { (layer : ℕ) (marks : Marks) → IsSearchAt (N.at nodes.now) layer query.now self.old marks start → IsSearch (N.at nodes.now) layer query.now self.new marks }
-        ensures found { (layer : ℕ) (passes : Attribute → Bool) → Answers (F.gives wanted.now.test) passes → AreFoundAt (N.at nodes.now) layer query.now passes self.old start → AreFound (N.at nodes.now) layer query.now passes self.new }
-        ensures frontier { length self.new.frontier.keys + start ≤ length self.old.frontier.keys + length self.old.tried }
-        ensures told { reads.new + start ≤ reads.old + length self.old.tried }
-    {
-        for place in start..self.tried.len() {
-            let id = self.tried.as_slice()[place];
-            let (key, passes) = look(nodes, id, query, wanted, reads);
-            self.offer(key, passes);
-        }
-    }
-
     /// Offers the ids that were tried from a place on.
     fn offer_from<N: Nodes, F: Testing, L: Ledger>(
         &mut self,
-        alloc: Global,
         nodes: &N,
         start: usize,
         query: &[u64],
@@ -194,11 +134,9 @@ impl Search {
         let count = (self.tried.len() - start) as u32;
         self.frontier.reserve(count)?;
         self.best.reserve(count)?;
-        if wanted.is_everyone() {
-            let begun = self.begin_from(alloc, nodes, start, query, reads)?;
-            self.offer_begun(nodes, &begun, start, query);
-        } else {
-            self.offer_looked(nodes, start, query, wanted, reads);
+        for place in start..self.tried.len() {
+            let id = self.tried.as_slice()[place];
+            self.offer(nodes, id, query, wanted, reads);
         }
         Ok(())
     }
@@ -238,7 +176,6 @@ impl Search {
     /// Tries each neighbour of an id, as long as more may be tried: first all are marked, then their distances are taken.
     fn expand<N: Nodes, F: Testing, L: Ledger>(
         &mut self,
-        alloc: Global,
         nodes: &N,
         layer: u8,
         id: u32,
@@ -266,13 +203,12 @@ impl Search {
         for next in links(nodes, layer, id, reads) {
             self.visit(*next, slot)?;
         }
-        self.offer_from(alloc, nodes, start, query, wanted, reads)
+        self.offer_from(nodes, start, query, wanted, reads)
     }
 
     /// Expands the nearest ids until none is to be expanded, or as many were tried as may be.
     pub fn run<N: Nodes, F: Testing, L: Ledger>(
         &mut self,
-        alloc: Global,
         nodes: &N,
         layer: u8,
         query: &[u64],
@@ -295,7 +231,7 @@ impl Search {
     {
         while !self.is_spent() {
             match self.advance()? {
-                Some(id) => self.expand(alloc, nodes, layer, id, query, wanted, slot, reads)?,
+                Some(id) => self.expand(nodes, layer, id, query, wanted, slot, reads)?,
                 None => return Ok(false),
             }
         }

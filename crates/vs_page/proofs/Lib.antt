@@ -1,5 +1,4 @@
 pub mod Trees
-pub mod Fours
 pub mod Entries
 pub mod Listings
 pub mod Below

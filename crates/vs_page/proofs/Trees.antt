@@ -38,12 +38,6 @@ all_places d ys zs n long few all k =
       | inr h ↦ get_or_past ys k d (omega (arith, long)) ∙ sym (get_or_past zs k d (omega arith))
     ]
 
--- a list of lists with another list for what it lacks, which has no items either
-pub other_blank : {X : Type 0} (xs : List (List (Option X))) (blank : List (Option X)) → ((i : ℕ) → item_at blank i ≡ None) → (p i : ℕ) → item_at (get_or xs p blank) i ≡ item_at (list_at xs p) i
-other_blank [] blank none p i = none i
-other_blank (y ∷ ys) blank none zero i = refl
-other_blank (y ∷ ys) blank none (suc p) i = other_blank ys blank none p i
-
 -- ---- other ids
 
 put_other : {X : Type 0} (root : List (List (List (Option X)))) (b p i b' p' i' : ℕ) (item : Option X) → b < length root → p < length (list_at root b)

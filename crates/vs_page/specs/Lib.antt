@@ -1,5 +1,4 @@
 pub mod Tree
-pub mod Four
 pub mod Changes
 pub mod PagedNodes
 pub mod FirstItems

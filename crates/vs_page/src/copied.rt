@@ -2,7 +2,6 @@
 ghost use Rattle.std.specs.Prelude.{◌≡◌, IfOk};
 
 use crate::shared_list::SharedList;
-use crate::shared_page::SharedPage;
 use std::alloc::Global;
 use vs_graph::Node;
 use vs_outside::NoMemory;
@@ -24,12 +23,6 @@ impl<T: Copied> Copied for Option<T> {
 
 impl<X: Drop> Copied for SharedList<X> {
     fn copied(&self, _alloc: Global) -> Result<SharedList<X>, NoMemory> {
-        self.try_clone()
-    }
-}
-
-impl<X: Drop> Copied for SharedPage<X> {
-    fn copied(&self, _alloc: Global) -> Result<SharedPage<X>, NoMemory> {
         self.try_clone()
     }
 }

@@ -4,7 +4,6 @@
 mod chunk;
 mod copied;
 mod draining;
-mod four;
 mod opening;
 mod page_list;
 mod page_map;
@@ -16,7 +15,6 @@ mod reading;
 mod row_tests;
 mod rows;
 mod shared_list;
-mod shared_page;
 #[cfg(test)]
 mod tests;
 

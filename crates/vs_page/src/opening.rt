@@ -1,16 +1,16 @@
 //! Ways to pages made nobody else's: what somebody else has is copied, and what is short is filled up. The map means the same
 //! throughout, so whatever is refused, nothing has changed. This is all that takes memory when a map is changed.
-ghost use Rattle.std.specs.Prelude.{◌≡◌, ◌≤◌, ◌<◌, ℕ, length, slice_index_or, None, IfOk};
-ghost use Rattle.vs_page.specs.Four.{no_four};
+ghost use Rattle.std.specs.Prelude.{◌≡◌, ◌≤◌, ◌<◌, ℕ, length, slice_index_or, IfOk};
 ghost use Rattle.vs_page.specs.Tree.{item_at, list_at, at_digits};
 
 use crate::Copied;
-use crate::four::Four;
 use crate::page_map::{Branch, Page, Root};
 use crate::shared_list::SharedList;
-use crate::shared_page::SharedPage;
 use std::alloc::Global;
 use vs_outside::NoMemory;
+
+/// How many items a page has.
+const PAGE_ITEMS: usize = 16;
 
 fn copy_or<X: Copied>(alloc: Global, items: &[X], place: usize, blank: &X) -> Result<X, NoMemory>
     ensures { IfOk result (λ copy. copy ≡ slice_index_or items.now place blank.now) }
@@ -52,60 +52,16 @@ fn lists_with<X: Drop>(
     )
 }
 
-fn blank_four<T>() -> Four<Option<T>>
-    ensures { result ≡ no_four }
-{
-    Four {
-        first: None,
-        second: None,
-        third: None,
-        fourth: None,
-    }
-}
-
-/// A page without items.
-#[tactic(auto, using(crate::proofs::Fours::none_at))]
-fn blank_page<T: Drop>(alloc: Global) -> Result<Page<T>, NoMemory>
-    ensures { IfOk result (λ page. (i : ℕ) → item_at page i ≡ None) }
-{
-    SharedPage::new(
-        alloc,
-        Four {
-            first: blank_four(),
-            second: blank_four(),
-            third: blank_four(),
-            fourth: blank_four(),
-        },
-    )
-}
-
-/// Copies of the pages, with the place among them.
-fn pages_with<T: Drop>(
-    alloc: Global,
-    pages: &[Page<T>],
-    place: usize,
-) -> Result<Vec<Page<T>>, NoMemory>
-    ensures long { IfOk result (λ copies. place < length copies.items) }
-    ensures same { IfOk result (λ copies. (p i : ℕ) → item_at (list_at copies.items p) i ≡ item_at (list_at pages.now p) i) }
-{
-    let blank = blank_page(alloc)?;
-    let copies = padded(
-        alloc,
-        pages,
-        pages.len().max(place.saturating_add(1)),
-        &blank,
-    )?;
-    Ok(copies)
-}
-
-/// Makes a page nobody else's.
+/// Makes a page whole and nobody else's.
 fn open_page<T: Copied>(alloc: Global, page: &mut Page<T>) -> Result<(), NoMemory>
     ensures { (i : ℕ) → item_at page.new i ≡ item_at page.old i }
 {
-    if page.is_own() {
+    let len = page.as_slice().len();
+    if len >= PAGE_ITEMS && page.is_own() {
         return Ok(());
     }
-    *page = page.own_copy(alloc)?;
+    let copies = padded(alloc, page.as_slice(), len.max(PAGE_ITEMS), &None)?;
+    *page = SharedList::new(alloc, copies)?;
     Ok(())
 }
 
@@ -120,7 +76,7 @@ fn open_in_branch<T: Copied>(
     if let Some(own) = branch.get_mut(page) {
         return open_page(alloc, own);
     }
-    let mut copies = pages_with(alloc, branch.as_slice(), page)?;
+    let mut copies = lists_with(alloc, branch.as_slice(), page)?;
     open_page(alloc, &mut copies[page])?;
     *branch = SharedList::new(alloc, copies)?;
     Ok(())

@@ -11,12 +11,11 @@ use crate::opening::open_in_root;
 use crate::placing::put_in_root;
 use crate::reading::{change_at, item_at_id};
 use crate::shared_list::SharedList;
-use crate::shared_page::SharedPage;
 use std::alloc::Global;
 use vs_outside::NoMemory;
 
 /// The items of 16 ids.
-pub(crate) type Page<T> = SharedPage<Option<T>>;
+pub(crate) type Page<T> = SharedList<Option<T>>;
 
 /// The pages of 4,096 ids, 256 of them.
 pub(crate) type Branch<T> = SharedList<Page<T>>;

@@ -6,7 +6,6 @@ use crate::page_map::{Branch, Page, Root};
 
 /// Puts the item into a page in its place, where nobody else has the page.
 fn put_in_page<T: Drop>(page: &mut Page<T>, place: usize, item: &mut Option<T>) -> bool
-    requires { place < 16 }
     ensures put { IsTrue result → page.new ≡ page_with page.old place item.old }
     ensures inside { IsTrue result → place < length page.old }
     ensures kept { IsFalse result → page.new ≡ page.old }
@@ -26,7 +25,6 @@ fn put_in_branch<T: Drop>(
     place: usize,
     item: &mut Option<T>,
 ) -> bool
-    requires { place < 16 }
     ensures put { IsTrue result → branch.new ≡ branch_with branch.old page place item.old }
     ensures inside { IsTrue result → page < length branch.old }
     ensures deeper { IsTrue result → place < length (list_at branch.old page) }
@@ -47,7 +45,6 @@ pub(crate) fn put_in_root<T: Drop>(
     place: usize,
     item: &mut Option<T>,
 ) -> bool
-    requires { place < 16 }
     ensures put { IsTrue result → root.new ≡ root_with root.old branch page place item.old }
     ensures inside { IsTrue result → branch < length root.old }
     ensures deeper { IsTrue result → page < length (list_at root.old branch) }

@@ -1,10 +1,10 @@
 //! Look-ups: an item by the three places of its id.
-ghost use Rattle.std.specs.Prelude.{◌≡◌, ◌<◌};
+ghost use Rattle.std.specs.Prelude.{◌≡◌};
 ghost use Rattle.std.specs.Option.{option_copied};
 ghost use Rattle.vs_page.specs.Tree.{at_root, item_at, list_at};
 ghost use Rattle.vs_page.specs.Changes.{says};
 
-use crate::page_map::{Change, Page, Root};
+use crate::page_map::{Change, Root};
 use crate::shared_list::SharedList;
 
 /// What the changes say of an id; the first at an id counts.
@@ -32,12 +32,11 @@ fn list_in<X>(lists: &[SharedList<X>], place: usize) -> &[X]
 }
 
 #[tactic(auto, using(crate::proofs::Trees::got_some, crate::proofs::Trees::got_none))]
-fn item_in<T>(pages: &[Page<T>], page: usize, place: usize) -> Option<&T>
-    requires { place < 16 }
-    ensures { option_copied result ≡ item_at (list_at pages.now page) place }
+fn item_in<T>(items: &[Option<T>], place: usize) -> Option<&T>
+    ensures { option_copied result ≡ item_at items.now place }
 {
-    match pages.get(page) {
-        Some(items) => items.get(place).as_ref(),
+    match items.get(place) {
+        Some(item) => item.as_ref(),
         None => None,
     }
 }
@@ -47,6 +46,6 @@ pub(crate) fn item_at_id<T>(root: &Root<T>, id: u32) -> Option<&T>
     ensures { option_copied result ≡ at_root root.now id }
 {
     let branch = list_in(root.as_slice(), (id / 4096) as usize);
-    let page = (id / 16 % 256) as usize;
-    item_in(branch, page, (id % 16) as usize)
+    let page = list_in(branch, (id / 16 % 256) as usize);
+    item_in(page, (id % 16) as usize)
 }
